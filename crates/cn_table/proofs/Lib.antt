@@ -1,0 +1,3 @@
+pub mod ItemLoop
+pub mod KeyLoop
+pub mod KeyOrder

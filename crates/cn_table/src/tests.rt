@@ -1,0 +1,53 @@
+use super::*;
+use cn_text::TextAnswer;
+use std::test::Fail;
+use toml::table_from_str;
+
+const TEXT: &str =
+    "address = \"10.0.0.1\"\nlayer = 7\nname = \"t1\"\nnames = [\"a\", \"b\"]\nprefix = \"10.1.1.0/24\"\ntable = {}\n";
+
+// Each value of a table once.
+#[test]
+fn values(rt: HostRuntime) -> Result<(), Fail> {
+    let alloc = rt.alloc();
+    if let Ok(table) = table_from_str(alloc, TEXT) {
+        assert!(rt; name_at(alloc, b"", "name", &table).is_ok_and(|name| name.text() == "t1"));
+        assert!(rt; address_at(alloc, b"", "address", &table).is_ok_and(|a| a == 0x0A00_0001));
+        assert!(rt; number_at(alloc, 0, 7, b"", "layer", &table).is_ok_and(|n| n == 7));
+        let value = needed(alloc, b"", "prefix", &table);
+        assert!(rt;
+            value.is_ok_and(|v| prefix_in(alloc, b"prefix", v).is_ok_and(|p| p.len() == 24))
+        );
+        assert!(rt; array_at(alloc, b"", "absent", &table).is_ok_and(|items| items.is_empty()));
+        if let Ok(values) = array_at(alloc, b"", "names", &table) {
+            let names = each(alloc, &NameReader, b"names", values);
+            assert!(rt; names.is_ok_and(|names| names.len() == 2));
+        } else {
+            assert!(rt; false);
+        }
+    } else {
+        assert!(rt; false);
+    }
+    Ok(())
+}
+
+// A key that isn't listed is told with its path.
+#[test]
+fn keys(rt: HostRuntime) -> Result<(), Fail> {
+    let alloc = rt.alloc();
+    if let Ok(table) = table_from_str(alloc, "name = 1\n\"a b\" = 2\nz = 3\n") {
+        assert!(rt; only(alloc, b"", &["a b", "name", "z"], &table).is_ok());
+        if let Err(answer) = only(alloc, b"device[0].", &["name"], &table) {
+            if let TextAnswer::Key { path } = &answer {
+                assert_eq!(rt; path.items(), b"device[0].a?b".as_slice());
+            } else {
+                assert!(rt; false);
+            }
+        } else {
+            assert!(rt; false);
+        }
+    } else {
+        assert!(rt; false);
+    }
+    Ok(())
+}
