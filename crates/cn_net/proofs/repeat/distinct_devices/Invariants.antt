@@ -1,0 +1,11 @@
+use Rattle.std.proofs.Common.{◌≡◌, map, take}
+use Rattle.cn_net.specs.Kept.{names_of}
+use Rattle.cn_net.specs.Numbered.{AreDistinct, texts}
+use Rattle.cn_net.proofs.repeat.distinct_devices.Given as goal
+
+abbrev pub invariant-loop-i : goal.invariant-loop-i
+invariant-loop-i l = record {
+  names : texts l.names.keys ≡ names_of (take l.i l.devices);
+  ids : l.ids.keys ≡ map (λ d. d.id) (take l.i l.devices);
+  distinct : AreDistinct (take l.i l.devices);
+}

@@ -1,0 +1,150 @@
+//! The parts of a network that is made of a draft: its devices as they are written, and its links with
+//! numbers in place of names. What may not stand twice among the devices is tried in `repeat.rt`.
+
+ghost use Rattle.std.specs.Prelude.{◌≡◌, ◌<◌, ◌≤◌, length, map, OnOk, IfOk, IfErr};
+ghost use Rattle.cn_net.specs.Drafted.{IfFault};
+ghost use Rattle.cn_net.specs.Ends.{AreJoined, JoinsNew, ends_between};
+ghost use Rattle.cn_net.specs.Kept.{AreNamesOf, names_of};
+ghost use Rattle.cn_net.specs.Numbered.{device_made, link_made, place_of, texts};
+
+use crate::device::{Body, Device, Link};
+use crate::draft::{DeviceDraft, LinkDraft};
+use crate::fault::{NetAnswer, NetFault, What};
+use cn_base::{DeviceId, Items, Name};
+use indexmap::IndexSet;
+use std::alloc::{AllocError, Global};
+
+const MOST_DEVICES: usize = 4096;
+
+const MOST_LINKS: usize = 16384;
+
+/// The two ends of a link, the lesser number first.
+#[derive(Clone, Copy, Debug, PartialEq, Eq, Hash)]
+pub struct Ends {
+    pub low: DeviceId,
+    pub high: DeviceId,
+}
+
+/// Tries the numbers of devices and of links.
+pub fn few_parts(devices: usize, links: usize) -> Result<(), NetAnswer>
+    ensures ok { OnOk result ((devices ≤ 4096) × (links ≤ 16384)) }
+    ensures fault { IfErr result (IfFault (devices ≤ 4096 → links ≤ 16384 → ⊥)) }
+{
+    if devices > MOST_DEVICES {
+        return Err(NetAnswer::Fault(NetFault::TooMany {
+            what: What::Devices,
+            count: devices as u64,
+        }));
+    }
+    if links > MOST_LINKS {
+        return Err(NetAnswer::Fault(NetFault::TooMany {
+            what: What::Links,
+            count: links as u64,
+        }));
+    }
+    Ok(())
+}
+
+fn copied_device(alloc: Global, device: &DeviceDraft) -> Result<Device, AllocError>
+    ensures { IfOk result (λ d. d ≡ device_made device.now) }
+{
+    Ok(Device {
+        name: device.name.copy(alloc)?,
+        layer: device.layer,
+        id: device.id,
+        body: Body {
+            asn: device.body.asn,
+            own: Items::make(Vec::from_slice(alloc, device.body.own.items())?),
+        },
+    })
+}
+
+/// The devices as they are written.
+pub fn copied_devices(alloc: Global, devices: &[DeviceDraft]) -> Result<Vec<Device>, AllocError>
+    ensures { IfOk result (λ v. v.items ≡ map device_made devices.now) }
+{
+    let mut copied = Vec::with_capacity(alloc, devices.len())?;
+    for device in devices {
+        copied.push(copied_device(alloc, device)?)?;
+    }
+    Ok(copied)
+}
+
+/// The number of the device that bears a name.
+fn number_of(alloc: Global, names: &IndexSet<String>, name: &Name) -> Result<DeviceId, NetAnswer>
+    requires { length names.now.keys ≤ 4096 }
+    ensures ok { IfOk result (λ d. (d.0 ≡ place_of (texts names.now.keys) name.now) × (d.0 < length names.now.keys)) }
+    ensures fault { IfErr result (IfFault (place_of (texts names.now.keys) name.now ≡ length names.now.keys)) }
+{
+    match names.get_index_of(name.text()) {
+        Some(place) => Ok(DeviceId(place as u32)),
+        None => {
+            let name = name.copy(alloc)?;
+            Err(NetAnswer::Fault(NetFault::UnknownName { name }))
+        }
+    }
+}
+
+fn ends_of(link: &Link) -> Ends
+    ensures { result ≡ ends_between link.now }
+{
+    if link.a < link.b {
+        Ends {
+            low: link.a,
+            high: link.b,
+        }
+    } else {
+        Ends {
+            low: link.b,
+            high: link.a,
+        }
+    }
+}
+
+/// Tries that a link joins two different devices with different AS numbers, and none before it the same.
+fn joins_new(devices: &[Device], before: &IndexSet<Ends>, link: &Link) -> Result<(), NetAnswer>
+    requires a { link.now.a.0 < length devices.now }
+    requires b { link.now.b.0 < length devices.now }
+    ensures ok { OnOk result (JoinsNew devices.now before.now.keys link.now) }
+    ensures fault { IfErr result (IfFault (JoinsNew devices.now before.now.keys link.now → ⊥)) }
+{
+    let Link { a, b, .. } = *link;
+    if a == b {
+        return Err(NetAnswer::Fault(NetFault::SelfLink { device: a }));
+    }
+    if before.contains(&ends_of(link)) {
+        return Err(NetAnswer::Fault(NetFault::DuplicateLink { a, b }));
+    }
+    if devices[a.0 as usize].body.asn == devices[b.0 as usize].body.asn {
+        return Err(NetAnswer::Fault(NetFault::SameAs { a, b }));
+    }
+    Ok(())
+}
+
+/// The links with the numbers of their ends in place of the names.
+pub fn joined_links(
+    alloc: Global,
+    devices: &[Device],
+    names: &IndexSet<String>,
+    links: &[LinkDraft],
+) -> Result<Vec<Link>, NetAnswer>
+    requires few { length devices.now ≤ 4096 }
+    requires named { AreNamesOf devices.now names.now.keys }
+    ensures made { IfOk result (λ v. v.items ≡ map (link_made (names_of devices.now)) links.now) }
+    ensures joined { IfOk result (λ v. AreJoined devices.now v.items) }
+    ensures fault { IfErr result (IfFault (AreJoined devices.now (map (link_made (names_of devices.now)) links.now) → ⊥)) }
+{
+    let mut joined = Vec::with_capacity(alloc, links.len())?;
+    let mut before = IndexSet::new(alloc);
+    for draft in links {
+        let link = Link {
+            a: number_of(alloc, names, &draft.a)?,
+            b: number_of(alloc, names, &draft.b)?,
+            up: draft.up,
+        };
+        joins_new(devices, &before, &link)?;
+        before.insert(ends_of(&link))?;
+        joined.push(link)?;
+    }
+    Ok(joined)
+}

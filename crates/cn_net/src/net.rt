@@ -1,0 +1,127 @@
+//! The network as a value.
+
+ghost use Rattle.std.specs.Prelude.{◌≡◌, ◌≢◌, ◌<◌, ◌^◌, length, MatchOption, IfOk, IfErr};
+ghost use Rattle.std.specs.Option.{option_copied};
+ghost use Rattle.cn_base.specs.declared.ids.DeviceId.{DeviceId};
+ghost use Rattle.cn_net.specs.Drafted.{IfFault, StandsForNone, draft_of};
+ghost use Rattle.cn_net.specs.Network.{IsDevice, asn_of, device_of, link_between, name_of};
+ghost use Rattle.cn_net.specs.Valid.{IsValid};
+
+use crate::device::{Device, Link};
+use crate::draft::Draft;
+use crate::fault::NetAnswer;
+use crate::make::{copied_devices, few_parts, joined_links};
+use crate::repeat::{distinct_devices, few_prefixes};
+use cn_base::{Asn, DeviceId, Items};
+use indexmap::IndexSet;
+use std::alloc::Global;
+use std::marker::Model;
+
+/// A valid network. Contracts see its devices, each at the place that is its number, and its links.
+#[derive(Debug, Drop)]
+pub struct Net {
+    devices: Items<Device>,
+    links: Items<Link>,
+    names: IndexSet<String>,
+}
+
+impl Model for Net {
+    ghost use Rattle.cn_net.specs.Network.{Network};
+    ghost use Rattle.cn_net.specs.Kept.{IsKept};
+
+    ghost Value = { Network };
+
+    ghost view = { λ n. record { devices = n.devices; links = n.links } };
+
+    ghost invariant = { λ n. IsKept (record { devices = n.devices; links = n.links }) n.names.keys };
+}
+
+impl Net {
+    /// The network that a draft stands for. A fault comes exactly where the draft stands for no valid
+    /// network. These are tried in order, and the first that is met is the fault: too many devices, or
+    /// links; for each device in order, a name or a router id that an earlier device has, or a prefix
+    /// that its list repeats; too many prefixes, each counted once; for each link in order, an end that
+    /// is unknown, one device at both ends, the ends of an earlier link, or two equal AS numbers.
+    pub fn make(alloc: Global, draft: &Draft) -> Result<Net, NetAnswer>
+        ensures ok { IfOk result (λ net. draft_of net ≡ draft.now) }
+        ensures fault { IfErr result (IfFault (StandsForNone draft.now)) }
+    {
+        few_parts(draft.devices.len(), draft.links.len())?;
+        let devices = copied_devices(alloc, draft.devices.items())?;
+        let names = distinct_devices(alloc, &devices)?;
+        few_prefixes(alloc, &devices)?;
+        let links = joined_links(alloc, &devices, &names, draft.links.items())?;
+        Ok(Net {
+            devices: Items::make(devices),
+            links: Items::make(links),
+            names,
+        })
+    }
+
+    /// Does nothing: a network is valid by its type, and a proof that needs to know so cites this call.
+    pub fn valid(&self)
+        ensures { IsValid self.now }
+    {
+        let _ = &self.links;
+    }
+
+    /// The devices, in the order of their numbers.
+    pub fn devices(&self) -> &[Device]
+        ensures { result.now ≡ self.now.devices }
+    {
+        self.devices.items()
+    }
+
+    /// The links, in the order of the plan.
+    pub fn links(&self) -> &[Link]
+        ensures { result.now ≡ self.now.links }
+    {
+        self.links.items()
+    }
+
+    /// How many devices there are: device numbers are below this.
+    pub fn count(&self) -> u32
+        ensures { result ≡ length self.now.devices }
+    {
+        self.devices.len() as u32
+    }
+
+    /// The device with this number. None comes exactly where the number is out of range.
+    pub fn device(&self, d: DeviceId) -> Option<&Device>
+        ensures { option_copied result ≡ device_of self.now d }
+    {
+        self.devices.items().get(d.0 as usize)
+    }
+
+    /// The device that bears this name. None comes exactly where no device does.
+    pub fn find(&self, name: &str) -> Option<DeviceId>
+        ensures { MatchOption result ((d : DeviceId) → IsDevice self.now d → name_of self.now d ≢ name.now) (λ d. IsDevice self.now d × (name_of self.now d ≡ name.now)) }
+    {
+        match self.names.get_index_of(name) {
+            Some(place) => Some(DeviceId(place as u32)),
+            None => None,
+        }
+    }
+
+    /// The AS number of a device, and 0 where there is no such device.
+    pub fn asn(&self, d: DeviceId) -> Asn
+        ensures { result ≡ asn_of self.now d }
+    {
+        match self.device(d) {
+            Some(device) => device.body.asn,
+            None => Asn(0),
+        }
+    }
+
+    /// Whether the link of two devices is up. None comes exactly where they aren't linked.
+    pub fn link(&self, a: DeviceId, b: DeviceId) -> Option<bool>
+        ensures { result ≡ link_between self.now a b }
+    {
+        let found = self
+            .links
+            .items()
+            .iter()
+            .find(|l| (l.a == a && l.b == b) || (l.a == b && l.b == a));
+        found.map(|l| l.up)
+    }
+}

@@ -1,0 +1,303 @@
+use super::*;
+use cn_base::{Asn, DeviceId, Items, Name, Origin, Prefix, RouterId};
+use std::alloc::Global;
+use std::test::Fail;
+
+fn name(alloc: Global, text: &str) -> Result<Name, Fail> {
+    match Name::new(alloc, text)? {
+        Some(name) => Ok(name),
+        None => Err(Fail::new("no name")),
+    }
+}
+
+// Prefixes of 24 bits.
+fn owned(alloc: Global, prefixes: &[u32]) -> Result<Items<Own>, Fail> {
+    let mut own = Vec::new(alloc);
+    for bits in prefixes {
+        if let Some(prefix) = Prefix::new(*bits, 24) {
+            own.push(Own {
+                prefix,
+                origin: Origin::Igp,
+            })?;
+        }
+    }
+    Ok(Items::make(own))
+}
+
+fn device(
+    alloc: Global,
+    text: &str,
+    layer: u8,
+    asn: u32,
+    id: u32,
+    own: Items<Own>,
+) -> Result<DeviceDraft, Fail> {
+    let body = BodyDraft { asn: Asn(asn), own };
+    Ok(DeviceDraft {
+        name: name(alloc, text)?,
+        layer,
+        id: RouterId(id),
+        body,
+    })
+}
+
+fn link(alloc: Global, a: &str, b: &str, up: bool) -> Result<LinkDraft, Fail> {
+    Ok(LinkDraft {
+        a: name(alloc, a)?,
+        b: name(alloc, b)?,
+        up,
+    })
+}
+
+// Two racks, the two leaves above them, and a spine.
+fn five_devices(alloc: Global) -> Result<Vec<DeviceDraft>, Fail> {
+    let mut devices = Vec::new(alloc);
+    for (text, asn, id, bits) in [
+        ("t1", 65101u32, 0x0A00_0001u32, 0x0A01_0100u32),
+        ("t2", 65102, 0x0A00_0002, 0x0A01_0200),
+    ] {
+        devices.push(device(alloc, text, 1, asn, id, owned(alloc, &[bits])?)?)?;
+    }
+    for (text, layer, asn, id) in [
+        ("l1", 2u8, 65201u32, 0x0A00_0101u32),
+        ("l2", 2, 65201, 0x0A00_0102),
+        ("s1", 3, 65000, 0x0A00_0201),
+    ] {
+        devices.push(device(alloc, text, layer, asn, id, owned(alloc, &[])?)?)?;
+    }
+    Ok(devices)
+}
+
+fn six_links(alloc: Global) -> Result<Vec<LinkDraft>, Fail> {
+    let mut links = Vec::new(alloc);
+    for (a, b) in [
+        ("t1", "l1"),
+        ("t1", "l2"),
+        ("t2", "l1"),
+        ("t2", "l2"),
+        ("l1", "s1"),
+        ("l2", "s1"),
+    ] {
+        links.push(link(alloc, a, b, true)?)?;
+    }
+    Ok(links)
+}
+
+fn five(alloc: Global) -> Result<Net, Fail> {
+    let devices = Items::make(five_devices(alloc)?);
+    let links = Items::make(six_links(alloc)?);
+    Ok(Net::make(alloc, &Draft { devices, links })?)
+}
+
+// The fault that is answered, as its `Debug` prints it.
+fn fault_of(
+    alloc: Global,
+    devices: Vec<DeviceDraft>,
+    links: Vec<LinkDraft>,
+) -> Result<String, Fail> {
+    let draft = Draft {
+        devices: Items::make(devices),
+        links: Items::make(links),
+    };
+    match Net::make(alloc, &draft) {
+        Ok(_) => Ok(String::from_str(alloc, "none")?),
+        Err(answer) => Ok(format!(in alloc; "{answer:?}")?),
+    }
+}
+
+#[test]
+fn five_are_found(rt: HostRuntime) -> Result<(), Fail> {
+    let net = five(rt.alloc())?;
+    for (text, number) in [
+        ("t1", Some(0u32)),
+        ("t2", Some(1)),
+        ("l1", Some(2)),
+        ("l2", Some(3)),
+        ("s1", Some(4)),
+        ("t3", None),
+        ("", None),
+    ] {
+        assert_eq!(rt; net.find(text).map(|d| d.0), number, "{text}");
+    }
+    Ok(())
+}
+
+#[test]
+fn five_are_read(rt: HostRuntime) -> Result<(), Fail> {
+    let net = five(rt.alloc())?;
+    net.valid();
+    for (number, asn) in [(0u32, 65101u32), (3, 65201), (4, 65000), (5, 0)] {
+        assert_eq!(rt; net.asn(DeviceId(number)).0, asn);
+        assert_eq!(rt;
+            net.device(DeviceId(number)).is_some(),
+            number < net.count()
+        );
+    }
+    Ok(())
+}
+
+#[test]
+fn five_are_linked(rt: HostRuntime) -> Result<(), Fail> {
+    let net = five(rt.alloc())?;
+    for (a, b, up) in [
+        (0u32, 2u32, Some(true)),
+        (3, 1, Some(true)),
+        (4, 3, Some(true)),
+        (0, 4, None),
+        (0, 1, None),
+        (0, 0, None),
+    ] {
+        assert_eq!(rt; net.link(DeviceId(a), DeviceId(b)), up, "{a} {b}");
+    }
+    Ok(())
+}
+
+// The fault where a sixth device has this name, this router id and these two prefixes.
+fn fault_of_sixth(alloc: Global, text: &str, id: u32, p: u32, q: u32) -> Result<String, Fail> {
+    let mut devices = five_devices(alloc)?;
+    devices.push(device(alloc, text, 1, 65103, id, owned(alloc, &[p, q])?)?)?;
+    fault_of(alloc, devices, six_links(alloc)?)
+}
+
+#[test]
+fn faults_of_devices(rt: HostRuntime) -> Result<(), Fail> {
+    let alloc = rt.alloc();
+    for (text, id, p, want) in [
+        ("t3", 0x0A00_0003u32, 0x0A01_0300u32, "none"),
+        (
+            "l2",
+            0x0A00_0003,
+            0x0A01_0300,
+            "Fault(DuplicateName { name: Name { text: \"l2\" } })",
+        ),
+        (
+            "t3",
+            0x0A00_0101,
+            0x0A01_0300,
+            "Fault(DuplicateId { a: DeviceId(2), b: DeviceId(5) })",
+        ),
+        (
+            "t3",
+            0x0A00_0003,
+            0x0A01_0400,
+            "Fault(DuplicateOwn { device: DeviceId(5), prefix: Prefix { bits: 167838720, len: 24 } })",
+        ),
+        (
+            "t1",
+            0x0A00_0001,
+            0x0A01_0400,
+            "Fault(DuplicateName { name: Name { text: \"t1\" } })",
+        ),
+        (
+            "t3",
+            0x0A00_0001,
+            0x0A01_0400,
+            "Fault(DuplicateId { a: DeviceId(0), b: DeviceId(5) })",
+        ),
+    ] {
+        assert_eq!(rt;
+            fault_of_sixth(alloc, text, id, p, 0x0A01_0400)?.as_str(),
+            want
+        );
+    }
+    Ok(())
+}
+
+// The ends of a seventh link, and the fault.
+#[test]
+fn faults_of_links(rt: HostRuntime) -> Result<(), Fail> {
+    let alloc = rt.alloc();
+    for (a, b, want) in [
+        ("t1", "s1", "none"),
+        (
+            "t3",
+            "t4",
+            "Fault(UnknownName { name: Name { text: \"t3\" } })",
+        ),
+        (
+            "t1",
+            "t4",
+            "Fault(UnknownName { name: Name { text: \"t4\" } })",
+        ),
+        ("t2", "t2", "Fault(SelfLink { device: DeviceId(1) })"),
+        (
+            "t2",
+            "l1",
+            "Fault(DuplicateLink { a: DeviceId(1), b: DeviceId(2) })",
+        ),
+        (
+            "l1",
+            "t2",
+            "Fault(DuplicateLink { a: DeviceId(2), b: DeviceId(1) })",
+        ),
+        (
+            "l2",
+            "l1",
+            "Fault(SameAs { a: DeviceId(3), b: DeviceId(2) })",
+        ),
+    ] {
+        let mut links = six_links(alloc)?;
+        links.push(link(alloc, a, b, true)?)?;
+        assert_eq!(rt;
+            fault_of(alloc, five_devices(alloc)?, links)?.as_str(),
+            want
+        );
+    }
+    Ok(())
+}
+
+// As many devices, with as many prefixes each that no other has.
+fn many_devices(alloc: Global, count: u32, each: u32) -> Result<Vec<DeviceDraft>, Fail> {
+    let mut devices = Vec::new(alloc);
+    for i in 0..count {
+        let text = format!(in alloc; "d{i}")?;
+        let mut own = Vec::new(alloc);
+        for k in 0..each {
+            own.push(i.wrapping_mul(each).wrapping_add(k).wrapping_mul(256))?;
+        }
+        devices.push(device(alloc, &text, 1, i, i, owned(alloc, &own)?)?)?;
+    }
+    Ok(devices)
+}
+
+// As many links between the first 200 devices.
+fn many_links(alloc: Global, count: usize) -> Result<Vec<LinkDraft>, Fail> {
+    let mut links = Vec::new(alloc);
+    for a in 0..200u32 {
+        for b in 0..a {
+            if links.len() < count {
+                let a = format!(in alloc; "d{a}")?;
+                let b = format!(in alloc; "d{b}")?;
+                links.push(link(alloc, &a, &b, true)?)?;
+            }
+        }
+    }
+    Ok(links)
+}
+
+// Numbers of devices, of prefixes of each and of links, and the fault.
+#[test]
+fn limits(rt: HostRuntime) -> Result<(), Fail> {
+    let alloc = rt.alloc();
+    for (devices, each, links, want) in [
+        (4096u32, 4u32, 16384usize, "none"),
+        (4097, 0, 0, "Fault(TooMany { what: Devices, count: 4097 })"),
+        (
+            200,
+            0,
+            16385,
+            "Fault(TooMany { what: Links, count: 16385 })",
+        ),
+        (
+            3277,
+            5,
+            0,
+            "Fault(TooMany { what: Prefixes, count: 16385 })",
+        ),
+    ] {
+        let drafts = many_devices(alloc, devices, each)?;
+        let links = many_links(alloc, links)?;
+        assert_eq!(rt; fault_of(alloc, drafts, links)?.as_str(), want);
+    }
+    Ok(())
+}
