@@ -1,0 +1,5 @@
+pub mod Groups
+pub mod Refusal
+pub mod Facing
+pub mod Origins
+pub mod Earlier
