@@ -1,0 +1,9 @@
+pub mod Status
+pub mod Form
+pub mod FormView
+pub mod Emulation
+pub mod Selection
+pub mod Texts
+pub mod Plan
+pub mod Ending
+pub mod Outcome

@@ -1,0 +1,235 @@
+use super::*;
+use cn_outside::{MemoryOut, MemoryShelf, Trip};
+use std::alloc::Global;
+use std::process::Abort;
+use std::test::Fail;
+
+// All but what t1 originates of five devices: two racks, two leaves of one AS number and a spine.
+const OTHERS: &str = "
+[[device]]
+name = \"t2\"
+layer = 1
+asn = 65102
+id = \"10.0.0.2\"
+own = [\"10.1.2.0/24\"]
+[[device]]
+name = \"l1\"
+layer = 2
+asn = 65201
+id = \"10.0.1.1\"
+[[device]]
+name = \"l2\"
+layer = 2
+asn = 65201
+id = \"10.0.1.2\"
+[[device]]
+name = \"s1\"
+layer = 3
+asn = 65000
+id = \"10.0.2.1\"
+[[link]]
+a = \"t1\"
+b = \"l1\"
+[[link]]
+a = \"t1\"
+b = \"l2\"
+[[link]]
+a = \"t2\"
+b = \"l1\"
+[[link]]
+a = \"t2\"
+b = \"l2\"
+[[link]]
+a = \"l1\"
+b = \"s1\"
+[[link]]
+a = \"l2\"
+b = \"s1\"
+";
+
+const TRIANGLE: &str = "version = 1
+emulate = [\"t1\"]
+[[device]]
+name = \"t1\"
+layer = 1
+asn = 65101
+id = \"10.0.0.1\"
+[[device]]
+name = \"l1\"
+layer = 2
+asn = 65201
+id = \"10.0.1.1\"
+[[device]]
+name = \"s1\"
+layer = 3
+asn = 65000
+id = \"10.0.2.1\"
+[[link]]
+a = \"t1\"
+b = \"l1\"
+[[link]]
+a = \"l1\"
+b = \"s1\"
+[[link]]
+a = \"s1\"
+b = \"t1\"
+";
+
+const ALL: &str = "\"t1\", \"t2\", \"l1\", \"l2\", \"s1\"";
+
+const EMULATED: &str =
+    "certified emulated 5 islands 0\nemulate t1\nemulate t2\nemulate l1\nemulate l2\nemulate s1\n";
+
+const USAGE: &str =
+    "usage: crystal plan FILE, serial FILE SCRIPT TRACE, replay FILE SCRIPT TRACE, save FILE, make PODS LEAVES RACKS SPINES SHIFT, sample PODS LEAVES RACKS SPINES SHIFT, live FILE SCRIPT TRACE WORKERS WATCHERS\n";
+
+// The plan of the five devices, with these names in `emulate` and these prefixes of t1.
+fn plan(alloc: Global, emulate: &str, own: &str) -> Result<String, Fail> {
+    let text = format!(in alloc;
+        "version = 1\nemulate = [{emulate}]\n[[device]]\nname = \"t1\"\nlayer = 1\nasn = 65101\nid = \"10.0.0.1\"\nown = [{own}]\n{OTHERS}"
+    )?;
+    Ok(text)
+}
+
+fn words(alloc: Global, texts: &[&str]) -> Result<Vec<String>, Fail> {
+    let mut words = Vec::new(alloc);
+    for text in texts {
+        words.push(String::from_str(alloc, *text)?)?;
+    }
+    Ok(words)
+}
+
+// What the words answer, where q.toml holds this text.
+fn answers(
+    rt: &impl Abort,
+    alloc: Global,
+    texts: &[&str],
+    content: &str,
+    status: Status,
+    text: &str,
+) -> Result<(), Fail> {
+    let words = words(alloc, texts)?;
+    let mut shelf = MemoryShelf::new(alloc);
+    shelf.hold(alloc, "q.toml", content.as_bytes())?;
+    let mut out = MemoryOut::new(alloc);
+    let result = command(alloc, words.as_slice(), &mut shelf, &mut out);
+    assert_eq!(rt; result, status, "{text}");
+    assert_eq!(rt; out.taken(), text.as_bytes(), "{text}");
+    Ok(())
+}
+
+#[test]
+fn words_without_a_plan(rt: HostRuntime) -> Result<(), Fail> {
+    let alloc = rt.alloc();
+    let usage = Status::Usage;
+    for (texts, status, text) in [
+        ([].as_slice(), usage, USAGE),
+        (["plan"].as_slice(), usage, USAGE),
+        (["plan", "q.toml", "q.toml"].as_slice(), usage, USAGE),
+        (["live", "q.toml"].as_slice(), usage, USAGE),
+        (["planet", "q.toml"].as_slice(), usage, USAGE),
+        (
+            ["serial"].as_slice(),
+            Status::Unbuilt,
+            "not built yet: serial\n",
+        ),
+        (
+            ["make", "a"].as_slice(),
+            Status::Unbuilt,
+            "not built yet: make\n",
+        ),
+        (
+            ["plan", "r.toml"].as_slice(),
+            Status::ReadFault,
+            "cannot read r.toml\n",
+        ),
+    ] {
+        answers(&rt, alloc, texts, "", status, text)?;
+    }
+    Ok(())
+}
+
+// The names in `emulate`, the prefixes of t1, and what `plan` answers.
+#[test]
+fn plans_of_five_devices(rt: HostRuntime) -> Result<(), Fail> {
+    let alloc = rt.alloc();
+    for (emulate, own, status, text) in [
+        (ALL, "\"10.1.1.0/24\"", Status::Ok, EMULATED),
+        (
+            "\"t1\", \"l1\", \"s1\"",
+            "\"10.1.1.0/24\"",
+            Status::Refused,
+            "refused facing emulated island t2: t1 65101 l1 65201\n",
+        ),
+        (
+            "\"t1\", \"l1\", \"l2\", \"s1\"",
+            "\"10.1.1.0/24\", \"10.1.2.0/24\"",
+            Status::Refused,
+            "refused origins island t2 prefix 10.1.2.0/24: t2 t1\n",
+        ),
+        (
+            "\"t1\", \"l1\", \"l2\", \"s1\"",
+            "\"10.1.1.0/24\"",
+            Status::Unbuilt,
+            "not built yet: records\n",
+        ),
+        (
+            "\"t1\", \"t9\"",
+            "\"10.1.1.0/24\"",
+            Status::Unbuilt,
+            "not built yet: plan text\n",
+        ),
+        (
+            ALL,
+            "\"10.1.1.0/24 igp\"",
+            Status::Unbuilt,
+            "not built yet: plan text\n",
+        ),
+    ] {
+        let plan = plan(alloc, emulate, own)?;
+        answers(&rt, alloc, &["plan", "q.toml"], plan.as_str(), status, text)?;
+    }
+    Ok(())
+}
+
+#[test]
+fn other_plans(rt: HostRuntime) -> Result<(), Fail> {
+    let alloc = rt.alloc();
+    for (content, status, text) in [
+        (
+            TRIANGLE,
+            Status::Refused,
+            "refused facing outside island l1: l1 65201 s1 65000\n",
+        ),
+        ("", Status::Unbuilt, "not built yet: plan text\n"),
+        (
+            "version = 1\nemulate = []\n",
+            Status::Ok,
+            "certified emulated 0 islands 0\n",
+        ),
+    ] {
+        answers(&rt, alloc, &["plan", "q.toml"], content, status, text)?;
+    }
+    Ok(())
+}
+
+// A read that fails, and a put that fails after five bytes.
+#[test]
+fn failing_calls(rt: HostRuntime) -> Result<(), Fail> {
+    let alloc = rt.alloc();
+    let words = words(alloc, &["plan", "q.toml"])?;
+    let mut shelf = MemoryShelf::new(alloc);
+    shelf.hold(alloc, "q.toml", plan(alloc, ALL, "")?.as_bytes())?;
+    let mut out = MemoryOut::new(alloc);
+    out.trip(vec![in alloc; Trip { call: 1, taken: 5 }]?);
+    let status = command(alloc, words.as_slice(), &mut shelf, &mut out);
+    assert_eq!(rt; status, Status::WriteFault);
+    assert_eq!(rt; out.taken(), b"certi".as_slice());
+    shelf.trip(vec![in alloc; Trip { call: 2, taken: 0 }]?);
+    let mut out = MemoryOut::new(alloc);
+    let status = command(alloc, words.as_slice(), &mut shelf, &mut out);
+    assert_eq!(rt; status, Status::ReadFault);
+    assert_eq!(rt; out.taken(), b"cannot read q.toml\n".as_slice());
+    assert_eq!(rt; status.number(), 3);
+    Ok(())
+}
