@@ -1,2 +1,5 @@
 pub mod Cidr
 pub mod Name
+pub mod Paths
+pub mod Rank
+pub mod Table
