@@ -6,21 +6,28 @@ use std::process::Abort;
 use std::test::Fail;
 
 // Devices by number, as the networks below have them.
-const T1: u32 = 0;
+const RACK_ONE: u32 = 0;
 
-const T2: u32 = 1;
+const RACK_TWO: u32 = 1;
 
-const L1: u32 = 2;
+const LEAF_ONE: u32 = 2;
 
-const L2: u32 = 3;
+const LEAF_TWO: u32 = 3;
 
-const S1: u32 = 4;
+const SPINE: u32 = 4;
 
-const T3: u32 = 5;
+const RACK_THREE: u32 = 5;
 
 const AS_NUMBERS: [u32; 6] = [65101, 65102, 65201, 65201, 65000, 65103];
 
-const LINKS: [(u32, u32); 6] = [(T1, L1), (T1, L2), (T2, L1), (T2, L2), (L1, S1), (L2, S1)];
+const LINKS: [(u32, u32); 6] = [
+    (RACK_ONE, LEAF_ONE),
+    (RACK_ONE, LEAF_TWO),
+    (RACK_TWO, LEAF_ONE),
+    (RACK_TWO, LEAF_TWO),
+    (LEAF_ONE, SPINE),
+    (LEAF_TWO, SPINE),
+];
 
 const ONE: u32 = 0x0A01_0100;
 
@@ -166,14 +173,29 @@ const NO: u32 = 9;
 #[test]
 fn emulated_side(rt: HostRuntime) -> Result<(), Fail> {
     let alloc = rt.alloc();
-    let own = [(T1, ONE), (T2, TWO)];
+    let own = [(RACK_ONE, ONE), (RACK_TWO, TWO)];
     let net = network(&rt, alloc, &AS_NUMBERS[..5], &own, &LINKS)?;
-    let refused = found(alloc, &net, &[T1, L1, S1], &[NO, T2, NO, T2, NO])?;
+    let refused = found(
+        alloc,
+        &net,
+        &[RACK_ONE, LEAF_ONE, SPINE],
+        &[NO, RACK_TWO, NO, RACK_TWO, NO],
+    )?;
     assert_eq!(rt;
         refused,
-        facing(Side::Emulated, T2, (T1, 65101), (L1, 65201))
+        facing(
+            Side::Emulated,
+            RACK_TWO,
+            (RACK_ONE, 65101),
+            (LEAF_ONE, 65201)
+        )
     );
-    let certified = found(alloc, &net, &[T1, L1, L2, S1], &[NO, T2, NO, NO, NO])?;
+    let certified = found(
+        alloc,
+        &net,
+        &[RACK_ONE, LEAF_ONE, LEAF_TWO, SPINE],
+        &[NO, RACK_TWO, NO, NO, NO],
+    )?;
     assert_eq!(rt; certified, None);
     refused_is_not_certified();
     Ok(())
@@ -199,12 +221,23 @@ fn outside_side(rt: HostRuntime) -> Result<(), Fail> {
 #[test]
 fn third_device(rt: HostRuntime) -> Result<(), Fail> {
     let alloc = rt.alloc();
-    let links = [(T1, L1), (T1, L2), (T2, L1), (T2, L2), (T1, S1)];
+    let links = [
+        (RACK_ONE, LEAF_ONE),
+        (RACK_ONE, LEAF_TWO),
+        (RACK_TWO, LEAF_ONE),
+        (RACK_TWO, LEAF_TWO),
+        (RACK_ONE, SPINE),
+    ];
     let net = network(&rt, alloc, &AS_NUMBERS[..5], &[], &links)?;
-    let refused = found(alloc, &net, &[L1, L2, S1], &[T1, T2, NO, NO, NO])?;
+    let refused = found(
+        alloc,
+        &net,
+        &[LEAF_ONE, LEAF_TWO, SPINE],
+        &[RACK_ONE, RACK_TWO, NO, NO, NO],
+    )?;
     assert_eq!(rt;
         refused,
-        facing(Side::Emulated, T1, (L1, 65201), (S1, 65000))
+        facing(Side::Emulated, RACK_ONE, (LEAF_ONE, 65201), (SPINE, 65000))
     );
     Ok(())
 }
@@ -213,10 +246,15 @@ fn third_device(rt: HostRuntime) -> Result<(), Fail> {
 #[test]
 fn emulated_origin(rt: HostRuntime) -> Result<(), Fail> {
     let alloc = rt.alloc();
-    let own = [(T1, ONE), (T1, TWO), (T2, TWO)];
+    let own = [(RACK_ONE, ONE), (RACK_ONE, TWO), (RACK_TWO, TWO)];
     let net = network(&rt, alloc, &AS_NUMBERS[..5], &own, &LINKS)?;
-    let refused = found(alloc, &net, &[T1, L1, L2, S1], &[NO, T2, NO, NO, NO])?;
-    assert_eq!(rt; refused, origins(&rt, T2, TWO, T2, T1));
+    let refused = found(
+        alloc,
+        &net,
+        &[RACK_ONE, LEAF_ONE, LEAF_TWO, SPINE],
+        &[NO, RACK_TWO, NO, NO, NO],
+    )?;
+    assert_eq!(rt; refused, origins(&rt, RACK_TWO, TWO, RACK_TWO, RACK_ONE));
     Ok(())
 }
 
@@ -224,11 +262,23 @@ fn emulated_origin(rt: HostRuntime) -> Result<(), Fail> {
 #[test]
 fn outside_origin(rt: HostRuntime) -> Result<(), Fail> {
     let alloc = rt.alloc();
-    let own = [(T1, ONE), (T2, TWO), (T3, TWO)];
-    let links = [(T1, L1), (T2, L1), (T2, L2), (L1, S1), (T3, L1), (T3, L2)];
+    let own = [(RACK_ONE, ONE), (RACK_TWO, TWO), (RACK_THREE, TWO)];
+    let links = [
+        (RACK_ONE, LEAF_ONE),
+        (RACK_TWO, LEAF_ONE),
+        (RACK_TWO, LEAF_TWO),
+        (LEAF_ONE, SPINE),
+        (RACK_THREE, LEAF_ONE),
+        (RACK_THREE, LEAF_TWO),
+    ];
     let net = network(&rt, alloc, &AS_NUMBERS, &own, &links)?;
-    let refused = found(alloc, &net, &[T1, L1, L2, S1], &[NO, T2, NO, NO, NO, T3])?;
-    assert_eq!(rt; refused, origins(&rt, T2, TWO, T2, T3));
+    let refused = found(
+        alloc,
+        &net,
+        &[RACK_ONE, LEAF_ONE, LEAF_TWO, SPINE],
+        &[NO, RACK_TWO, NO, NO, NO, RACK_THREE],
+    )?;
+    assert_eq!(rt; refused, origins(&rt, RACK_TWO, TWO, RACK_TWO, RACK_THREE));
     Ok(())
 }
 
@@ -236,10 +286,20 @@ fn outside_origin(rt: HostRuntime) -> Result<(), Fail> {
 #[test]
 fn lower_island(rt: HostRuntime) -> Result<(), Fail> {
     let alloc = rt.alloc();
-    let links = [(T1, L1), (T1, L2), (T2, L1), (T2, S1)];
-    let own = [(T1, TWO), (T2, TWO)];
+    let links = [
+        (RACK_ONE, LEAF_ONE),
+        (RACK_ONE, LEAF_TWO),
+        (RACK_TWO, LEAF_ONE),
+        (RACK_TWO, SPINE),
+    ];
+    let own = [(RACK_ONE, TWO), (RACK_TWO, TWO)];
     let net = network(&rt, alloc, &AS_NUMBERS[..5], &own, &links)?;
-    let refused = found(alloc, &net, &[L1, L2, S1], &[T1, T2, NO, NO, NO])?;
-    assert_eq!(rt; refused, origins(&rt, T1, TWO, T1, T2));
+    let refused = found(
+        alloc,
+        &net,
+        &[LEAF_ONE, LEAF_TWO, SPINE],
+        &[RACK_ONE, RACK_TWO, NO, NO, NO],
+    )?;
+    assert_eq!(rt; refused, origins(&rt, RACK_ONE, TWO, RACK_ONE, RACK_TWO));
     Ok(())
 }

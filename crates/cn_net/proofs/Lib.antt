@@ -2,7 +2,11 @@ pub mod Agreeing
 pub mod Chains
 pub mod Drafts
 pub mod Keys
+pub mod Linked
 pub mod Making
 pub mod Members
+pub mod Offers
+pub mod Parts
 pub mod Places
+pub mod Seen
 pub mod Steps

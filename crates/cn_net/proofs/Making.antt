@@ -1,5 +1,5 @@
 -- A draft and the one network that it can stand for.
-use Rattle.std.proofs.Common.{◌≡◌, ℕ, ◌<◌, ◌≤◌, List, String, [], ◌∷◌, length, map, refl, sym, ◌∙◌, ap, subst, arith}
+use Rattle.std.proofs.Common.{◌≡◌, ◌≢◌, ℕ, ◌<◌, ◌≤◌, List, String, [], ◌∷◌, length, map, refl, sym, ◌∙◌, ap, subst, arith}
 use Rattle.std.specs.List.{IsDistinct, All}
 use Rattle.std.specs.Str.{bytes_eq}
 use Rattle.std.proofs.lemmas.List.{length-map}
@@ -8,6 +8,7 @@ use Rattle.cn_base.specs.declared.ids.DeviceId.{DeviceId}
 use Rattle.cn_net.specs.Drafted.{draft_of, device_draft, link_draft, StandsForNone}
 use Rattle.cn_net.specs.Ends.{AreJoined}
 use Rattle.cn_net.specs.Kept.{AreNamesOf, IsKept, names_of}
+use Rattle.cn_net.specs.Neighbours.{AreNeighbours}
 use Rattle.cn_net.specs.Network.{Network, name_of}
 use Rattle.cn_net.specs.Numbered.{AreDistinct, AreFew, JoinsAmong, device_made, link_made, place_of}
 use Rattle.cn_net.specs.Valid.{IsValid, JoinsDevices}
@@ -16,6 +17,7 @@ use Rattle.cn_net.specs.declared.device.Link.{Link}
 use Rattle.cn_net.specs.declared.draft.DeviceDraft.{DeviceDraft}
 use Rattle.cn_net.specs.declared.draft.Draft.{Draft}
 use Rattle.cn_net.specs.declared.draft.LinkDraft.{LinkDraft}
+use Rattle.cn_net.specs.declared.neighbours.Neighbour.{Neighbour}
 use Rattle.cn_net.proofs.Places.{name_at, name_of-get_or, place_at}
 
 -- ---- there and back
@@ -87,8 +89,8 @@ no_links draft devices are fails net valid reads =
 
 -- ---- what is made
 
-pub kept : {A : Type 0} (net : Network) (keys : List (String A)) → length net.devices ≤ 4096 → length net.links ≤ 16384 → AreFew net.devices → AreDistinct net.devices → AreJoined net.devices net.links → AreNamesOf net.devices keys → IsKept net keys
-kept net keys devices links few distinct joined named = record {
+pub kept : {A : Type 0} (net : Network) (keys : List (String A)) (neighbours : List Neighbour) → length net.devices ≤ 4096 → length net.links ≤ 16384 → AreFew net.devices → AreDistinct net.devices → AreJoined net.devices net.links → AreNamesOf net.devices keys → AreNeighbours net.links neighbours → IsKept net keys neighbours
+kept net keys neighbours devices links few distinct joined named seen = record {
   valid = record {
     few_devices = devices;
     few_links = links;
@@ -100,6 +102,7 @@ kept net keys devices links few distinct joined named = record {
     one_link = joined.one_link;
   };
   named = named;
+  joined = seen;
 }
 
 pub reads_as : (net : Network) (draft : Draft) → net.devices ≡ map device_made draft.devices → net.links ≡ map (link_made (names_of net.devices)) draft.links → AreJoined net.devices net.links → draft_of net ≡ draft
@@ -108,3 +111,8 @@ reads_as net draft devices links joined =
     let ds : map device_draft net.devices ≡ draft.devices = ap (map device_draft) devices ∙ redrafted draft.devices in
     let ls : map (link_draft net) net.links ≡ draft.links = ap (map (link_draft net)) links ∙ links_redrafted net draft.links (subst (All (JoinsDevices net)) links all) in
     λ j. record { devices = ds j; links = ls j }
+
+-- ---- what the list of neighbours asks
+
+pub ends_apart : (devices : List Device) (links : List Link) → AreJoined devices links → All (λ l. l.a ≢ l.b) links
+ends_apart devices links joined = All-weaker (JoinsAmong devices) (λ l. l.a ≢ l.b) (λ l j. j.apart) links joined.ends

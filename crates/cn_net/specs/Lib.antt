@@ -1,6 +1,8 @@
 pub mod Network
 pub mod Valid
 pub mod Drafted
+pub mod Exchange
+pub mod Neighbours
 pub mod Kept
 pub mod Numbered
 pub mod Ends

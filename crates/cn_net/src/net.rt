@@ -1,16 +1,19 @@
 //! The network as a value.
 
-ghost use Rattle.std.specs.Prelude.{◌≡◌, ◌≢◌, ◌<◌, ◌^◌, length, MatchOption, IfOk, IfErr};
+ghost use Rattle.std.specs.Prelude.{◌≡◌, ◌≢◌, ◌<◌, ◌^◌, ◌↔◌, All, length, MatchOption, IfOk, IfErr};
+ghost use Rattle.std.specs.List.{AllPairs, Any};
 ghost use Rattle.std.specs.Option.{option_copied};
 ghost use Rattle.cn_base.specs.declared.ids.DeviceId.{DeviceId};
 ghost use Rattle.cn_net.specs.Drafted.{IfFault, StandsForNone, draft_of};
-ghost use Rattle.cn_net.specs.Network.{IsDevice, asn_of, device_of, link_between, name_of};
+ghost use Rattle.cn_net.specs.Neighbours.{TellsOfLink};
+ghost use Rattle.cn_net.specs.Network.{IsDevice, IsLinked, asn_of, device_of, link_between, name_of};
 ghost use Rattle.cn_net.specs.Valid.{IsValid};
 
 use crate::device::{Device, Link};
 use crate::draft::Draft;
 use crate::fault::NetAnswer;
 use crate::make::{copied_devices, few_parts, joined_links};
+use crate::neighbours::{Neighbour, neighbours_of};
 use crate::repeat::{distinct_devices, few_prefixes};
 use cn_base::{Asn, DeviceId, Items};
 use indexmap::IndexSet;
@@ -23,6 +26,7 @@ pub struct Net {
     devices: Items<Device>,
     links: Items<Link>,
     names: IndexSet<String>,
+    neighbours: Vec<Neighbour>,
 }
 
 impl Model for Net {
@@ -33,7 +37,7 @@ impl Model for Net {
 
     ghost view = { λ n. record { devices = n.devices; links = n.links } };
 
-    ghost invariant = { λ n. IsKept (record { devices = n.devices; links = n.links }) n.names.keys };
+    ghost invariant = { λ n. IsKept (record { devices = n.devices; links = n.links }) n.names.keys n.neighbours.items };
 }
 
 impl Net {
@@ -51,10 +55,12 @@ impl Net {
         let names = distinct_devices(alloc, &devices)?;
         few_prefixes(alloc, &devices)?;
         let links = joined_links(alloc, &devices, &names, draft.links.items())?;
+        let neighbours = neighbours_of(alloc, &links)?;
         Ok(Net {
             devices: Items::make(devices),
             links: Items::make(links),
             names,
+            neighbours,
         })
     }
 
@@ -118,10 +124,28 @@ impl Net {
         ensures { result ≡ link_between self.now a b }
     {
         let found = self
-            .links
-            .items()
-            .iter()
-            .find(|l| (l.a == a && l.b == b) || (l.a == b && l.b == a));
-        found.map(|l| l.up)
+            .neighbours
+            .binary_search_by_key(&(a, b), |n| (n.of, n.device));
+        match found {
+            Ok(place) => {
+                let place = self.neighbours[place].link as usize;
+                Some(self.links.items()[place].up)
+            }
+            Err(_) => None,
+        }
+    }
+
+    /// The links of a device, as that device sees them, in the order of the numbers of its neighbours.
+    /// Empty where there is no such device.
+    pub fn neighbours(&self, d: DeviceId) -> &[Neighbour]
+        ensures of { All (λ n. n.of ≡ d) result.now }
+        ensures links { All (TellsOfLink self.now.links) result.now }
+        ensures linked { (b : DeviceId) → (Any (λ n. n.device ≡ b) result.now ↔ IsLinked self.now d b) }
+        ensures ascending { AllPairs (λ x y. x.device.0 < y.device.0) result.now }
+    {
+        let end = self.neighbours.partition_point(|n| n.of <= d);
+        let front = &self.neighbours[..end];
+        let start = front.partition_point(|n| n.of < d);
+        &front[start..]
     }
 }

@@ -1,5 +1,5 @@
 use super::*;
-use cn_base::{Asn, DeviceId, Items, Name, Origin, Prefix, RouterId};
+use cn_base::{AsPath, Asn, DeviceId, Items, Name, Origin, Prefix, Route, RouterId};
 use std::alloc::Global;
 use std::test::Fail;
 
@@ -152,6 +152,25 @@ fn five_are_linked(rt: HostRuntime) -> Result<(), Fail> {
     Ok(())
 }
 
+#[test]
+fn five_see_their_neighbours(rt: HostRuntime) -> Result<(), Fail> {
+    let net = five(rt.alloc())?;
+    for (d, place, want) in [
+        (0u32, 0usize, Some((2u32, 0u32))),
+        (0, 1, Some((3, 1))),
+        (0, 2, None),
+        (2, 0, Some((0, 0))),
+        (2, 1, Some((1, 2))),
+        (2, 2, Some((4, 4))),
+        (2, 3, None),
+        (5, 0, None),
+    ] {
+        let seen = net.neighbours(DeviceId(d)).get(place);
+        assert_eq!(rt; seen.map(|n| (n.device.0, n.link)), want, "{d} {place}");
+    }
+    Ok(())
+}
+
 // The fault where a sixth device has this name, this router id and these two prefixes.
 fn fault_of_sixth(alloc: Global, text: &str, id: u32, p: u32, q: u32) -> Result<String, Fail> {
     let mut devices = five_devices(alloc)?;
@@ -298,6 +317,87 @@ fn limits(rt: HostRuntime) -> Result<(), Fail> {
         let drafts = many_devices(alloc, devices, each)?;
         let links = many_links(alloc, links)?;
         assert_eq!(rt; fault_of(alloc, drafts, links)?.as_str(), want);
+    }
+    Ok(())
+}
+
+fn path(alloc: Global, numbers: &[u32]) -> Result<AsPath, Fail> {
+    let mut path = Vec::new(alloc);
+    for number in numbers {
+        path.push(Asn(*number))?;
+    }
+    match AsPath::make(path) {
+        Some(path) => Ok(path),
+        None => Err(Fail::new("too long")),
+    }
+}
+
+// What is offered of a route with this path, as numbers, or none.
+fn offered(alloc: Global, net: &Net, ends: (u32, u32), numbers: &[u32]) -> Result<String, Fail> {
+    let Some(prefix) = Prefix::new(0x0A01_0100, 24) else {
+        return Err(Fail::new("no prefix"));
+    };
+    let path = path(alloc, numbers)?;
+    let (a, b) = ends;
+    if a >= net.count() || b >= net.count() {
+        return Err(Fail::new("no device"));
+    }
+    let route = Route {
+        prefix,
+        path,
+        origin: Origin::Egp,
+    };
+    let (a, b) = (DeviceId(a), DeviceId(b));
+    let has = net.has_offer(a, b, &route.prefix, &route.path);
+    match net.offer(alloc, a, b, &route)? {
+        None => Ok(format!(in alloc; "{has} none")?),
+        Some(offer) => {
+            let first = offer.path.get(0).map_or(0, |asn| asn.0);
+            let len = offer.path.len();
+            let takes = net.accept(b, a, &offer);
+            let Route {
+                prefix,
+                path,
+                origin,
+            } = &route;
+            let is = net.is_offer(a, b, prefix, path, *origin, &offer.path, offer.origin);
+            let other = net.is_offer(a, b, prefix, path, *origin, path, offer.origin);
+            Ok(format!(in alloc; "{has} {first} of {len} {takes} {is} {other}")?)
+        }
+    }
+}
+
+// From one device to another, a path, and the offer: whether there is one, its first number and its
+// length, whether it is accepted, and whether it is known from a path without the sender's number.
+#[test]
+fn offers_of_five(rt: HostRuntime) -> Result<(), Fail> {
+    let alloc = rt.alloc();
+    let net = five(alloc)?;
+    for (ends, numbers, text) in [
+        (
+            (0u32, 2u32),
+            [].as_slice(),
+            "true 65101 of 1 true true false",
+        ),
+        ((0, 1), [].as_slice(), "false none"),
+        (
+            (4, 3),
+            [65201u32, 65101].as_slice(),
+            "true 65000 of 3 false true false",
+        ),
+        (
+            (4, 2),
+            [65102, 65103].as_slice(),
+            "true 65000 of 3 true true false",
+        ),
+        (
+            (0, 2),
+            [7; 254].as_slice(),
+            "true 65101 of 255 true true false",
+        ),
+        ((0, 2), [7; 255].as_slice(), "false none"),
+    ] {
+        assert_eq!(rt; offered(alloc, &net, ends, numbers)?.as_str(), text);
     }
     Ok(())
 }

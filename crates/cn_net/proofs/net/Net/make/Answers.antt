@@ -4,6 +4,7 @@ use Rattle.std.proofs.lemmas.Result.{err_from_is_err_and}
 use Rattle.cn_net.specs.Drafted.{StandsForNone}
 use Rattle.cn_net.specs.Ends.{AreJoined}
 use Rattle.cn_net.specs.Kept.{AreNamesOf, names_of}
+use Rattle.cn_net.specs.Neighbours.{AreNeighbours}
 use Rattle.cn_net.specs.Network.{Network}
 use Rattle.cn_net.specs.Numbered.{AreDistinct, AreFew, device_made, link_made}
 use Rattle.cn_net.proofs.Making.{distinct_from, kept, no_devices, no_links, reads_as}
@@ -47,15 +48,17 @@ invariant_of-result c =
     let is : c.deref.result.now ≡ net.devices = c.deref.ensures.value ∙ sym c.make.ensures in
     let is' : c.deref-2.result.now ≡ net.devices = c.deref-2.ensures.value ∙ sym c.make.ensures in
     let is'' : c.deref-3.result.now ≡ net.devices = c.deref-3.ensures.value ∙ sym c.make.ensures in
+    let seen : c.deref-4.result.now ≡ net.links = c.deref-4.ensures.value ∙ sym c.make-2.ensures in
     let made : net.devices ≡ map device_made draft.devices = c.make.ensures ∙ c.in_ok-devices.ensures ∙ ap (map device_made) c.items.ensures in
     let links : net.links ≡ map (link_made (names_of c.deref-3.result.now)) draft.links = c.make-2.ensures ∙ c.in_ok-links.ensures.made ∙ ap (map (link_made (names_of c.deref-3.result.now))) c.items-2.ensures in
     let many : length net.devices ≡ length draft.devices = ap length made ∙ length-map draft.devices device_made in
     let total : length net.links ≡ length draft.links = ap length links ∙ length-map draft.links (link_made (names_of c.deref-3.result.now)) in
-    kept net c.in_ok-names.names.keys (omega (arith, many, c.len.ensures, parts.0)) (omega (arith, total, c.len-2.ensures, parts.1))
+    kept net c.in_ok-names.names.keys c.in_ok-neighbours.neighbours.items (omega (arith, many, c.len.ensures, parts.0)) (omega (arith, total, c.len-2.ensures, parts.1))
     (subst AreFew is' c.in_ok-few_prefixes.ensures.ok)
     (subst AreDistinct is c.in_ok-names.ensures.ok.1)
     (subst (λ ds. AreJoined ds net.links) is'' (subst (AreJoined c.deref-3.result.now) (sym c.make-2.ensures) c.in_ok-links.ensures.joined))
     (subst (λ ds. AreNamesOf ds c.in_ok-names.names.keys) is c.in_ok-names.ensures.ok.0)
+    (subst (λ ls. AreNeighbours ls c.in_ok-neighbours.neighbours.items) seen c.in_ok-neighbours.ensures)
 
 pub returns-clause-ok : goal.returns-clause-ok
 returns-clause-ok c =

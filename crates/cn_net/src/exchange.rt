@@ -1,0 +1,175 @@
+//! What a device offers to another and what that one accepts (RFC 4271, 5.1.2 and 9.1.2).
+
+ghost use Rattle.std.specs.Prelude.{◌≡◌, ◌↔◌, ◌==◌, IsTrue, IfOk, is_some, Some};
+ghost use Rattle.std.specs.List.{list_all};
+ghost use Rattle.cn_base.specs.declared.ids.Origin.{Origin as OriginValue};
+ghost use Rattle.cn_net.specs.Exchange.{accept, accepts, copies, export_permits, import_permits, offer, offered, offered_path};
+ghost use Rattle.cn_net.specs.Network.{IsDevice};
+
+use crate::device::Body;
+use crate::net::Net;
+use cn_base::{AsPath, Asn, DeviceId, Origin, Prefix, Route};
+use std::alloc::{AllocError, Global};
+
+/// Holds where each number is this one.
+fn are_copies(numbers: &[Asn], asn: Asn) -> bool
+    ensures { result ≡ list_all (λ n. n.0 == asn.0) numbers.now }
+{
+    numbers.iter().all(|number| *number == asn)
+}
+
+impl Body {
+    #[tactic(auto, unfolding(crate::specs::Exchange::export_permits))]
+    fn export_permits(&self, _peer: DeviceId, _prefix: &Prefix) -> bool
+        ensures { result ≡ export_permits self.now _peer _prefix.now }
+    {
+        true
+    }
+
+    #[tactic(auto, unfolding(crate::specs::Exchange::import_permits))]
+    fn import_permits(&self, _peer: DeviceId, _prefix: &Prefix) -> bool
+        ensures { result ≡ import_permits self.now _peer _prefix.now }
+    {
+        true
+    }
+
+    #[tactic(auto, unfolding(crate::specs::Exchange::copies))]
+    fn copies(&self, _peer: DeviceId) -> u8
+        ensures { result ≡ copies self.now _peer }
+    {
+        1
+    }
+
+    /// Holds where a device with this body accepts a route from a peer.
+    #[tactic(auto, unfolding(crate::specs::Exchange::accepts))]
+    pub fn accepts(&self, from: DeviceId, route: &Route) -> bool
+        ensures { result ≡ accepts self.now from route.now }
+    {
+        !route.path.contains(self.asn) && self.import_permits(from, &route.prefix)
+    }
+
+    /// Holds where something is offered to a peer of a route with this prefix and path.
+    #[tactic(auto, unfolding(crate::specs::Exchange::offered, crate::specs::Exchange::offered_path), using(crate::proofs::Offers::length_offered))]
+    fn has_offered(&self, peer: DeviceId, prefix: &Prefix, path: &AsPath) -> bool
+        ensures { (origin : OriginValue) → result ≡ is_some (offered self.now peer (record { prefix = prefix.now; path = path.now; origin = origin })) }
+    {
+        self.export_permits(peer, prefix)
+            && u16::from(self.copies(peer)) + u16::from(path.len()) <= 255
+    }
+
+    /// Holds where the path is what is offered to a peer of a route with the other path.
+    #[tactic(auto, unfolding(crate::specs::Exchange::offered_path))]
+    fn is_offered_path(&self, peer: DeviceId, path: &AsPath, sent: &AsPath) -> bool
+        ensures { IsTrue result ↔ (sent.now ≡ offered_path self.now peer path.now) }
+    {
+        let times = usize::from(self.copies(peer));
+        let sent = sent.items();
+        if sent.len() < times {
+            return false;
+        }
+        let (front, rest) = sent.split_at(times);
+        let copies_in_front = are_copies(front, self.asn);
+        let path_behind = rest == path.items();
+        copies_in_front && path_behind
+    }
+
+    /// What a device with this body offers to a peer of a route, if the link to it is up.
+    #[tactic(auto, unfolding(crate::specs::Exchange::offered, crate::specs::Exchange::offered_path))]
+    fn offered(
+        &self,
+        alloc: Global,
+        peer: DeviceId,
+        route: &Route,
+    ) -> Result<Option<Route>, AllocError>
+        ensures { IfOk result (λ o. o ≡ offered self.now peer route.now) }
+    {
+        if !self.export_permits(peer, &route.prefix) {
+            return Ok(None);
+        }
+        let path = route.path.extended(alloc, self.asn, self.copies(peer))?;
+        Ok(path.map(|path| Route {
+            prefix: route.prefix,
+            path,
+            origin: route.origin,
+        }))
+    }
+}
+
+impl Net {
+    /// What `a` offers to `b` of a route. None where the link between them is missing or down, where
+    /// export denies the prefix, or where the longer path would have more than 255 numbers.
+    #[tactic(auto, unfolding(crate::specs::Exchange::offer))]
+    pub fn offer(
+        &self,
+        alloc: Global,
+        a: DeviceId,
+        b: DeviceId,
+        route: &Route,
+    ) -> Result<Option<Route>, AllocError>
+        requires a { IsDevice self.now a }
+        requires b { IsDevice self.now b }
+        ensures { IfOk result (λ o. o ≡ offer self.now a b route.now) }
+    {
+        if self.link(a, b) != Some(true) {
+            return Ok(None);
+        }
+        match self.device(a) {
+            Some(device) => device.body.offered(alloc, b, route),
+            None => Ok(None),
+        }
+    }
+
+    /// Holds where the offer from `a` to `b` of a route with this prefix and path isn't nothing. It takes
+    /// no memory.
+    #[tactic(auto, unfolding(crate::specs::Exchange::offer))]
+    pub fn has_offer(&self, a: DeviceId, b: DeviceId, prefix: &Prefix, path: &AsPath) -> bool
+        requires a { IsDevice self.now a }
+        requires b { IsDevice self.now b }
+        ensures { (origin : OriginValue) → result ≡ is_some (offer self.now a b (record { prefix = prefix.now; path = path.now; origin = origin })) }
+    {
+        if self.link(a, b) != Some(true) {
+            return false;
+        }
+        match self.device(a) {
+            Some(device) => device.body.has_offered(b, prefix, path),
+            None => false,
+        }
+    }
+
+    /// Holds where the offer from `a` to `b` of the route with this prefix, path and ORIGIN is the one with
+    /// the path `sent` and the ORIGIN `sent_origin`. It takes no memory.
+    #[tactic(auto, unfolding(crate::specs::Exchange::offer, crate::specs::Exchange::offered))]
+    pub fn is_offer(
+        &self,
+        a: DeviceId,
+        b: DeviceId,
+        prefix: &Prefix,
+        path: &AsPath,
+        origin: Origin,
+        sent: &AsPath,
+        sent_origin: Origin,
+    ) -> bool
+        requires a { IsDevice self.now a }
+        requires b { IsDevice self.now b }
+        ensures { IsTrue result ↔ (offer self.now a b (record { prefix = prefix.now; path = path.now; origin = origin }) ≡ Some (record { prefix = prefix.now; path = sent.now; origin = sent_origin })) }
+    {
+        if !self.has_offer(a, b, prefix, path) || origin != sent_origin {
+            return false;
+        }
+        match self.device(a) {
+            Some(device) => device.body.is_offered_path(b, path, sent),
+            None => false,
+        }
+    }
+
+    /// Holds where `b` accepts a route from `a`. It takes no memory.
+    #[tactic(auto, unfolding(crate::specs::Exchange::accept))]
+    pub fn accept(&self, b: DeviceId, a: DeviceId, route: &Route) -> bool
+        requires b { IsDevice self.now b }
+        requires a { IsDevice self.now a }
+        ensures { result ≡ accept self.now b a route.now }
+    {
+        self.device(b)
+            .is_some_and(|device| device.body.accepts(a, route))
+    }
+}
