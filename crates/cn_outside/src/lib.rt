@@ -6,9 +6,10 @@
 //! faults rose in that call, and want of memory has an answer of its own.
 //!
 //! What an implementation says of its content depends on `tells`, a constant of its type. `MemoryShelf`
-//! and `MemoryOut` tell exactly what they hold, and their calls can be made to fail by number.
+//! and `MemoryOut` tell exactly what they hold, and their calls can be made to fail by number; `SureShelf`
+//! and `SureOut` are the same without that, so a contract shows which faults can't come of them.
 //! `HostShelf` and `HostOut` are the host's files and standard output, of whose content nothing is told.
-//! Both shelves keep their failed calls in a `FailedCalls`, whose place is taken before the call is made,
+//! Each shelf keeps its failed calls in a `FailedCalls`, whose place is taken before the call is made,
 //! so that noting a failure never wants memory.
 #![tactic(auto)]
 
@@ -16,11 +17,13 @@ mod failed;
 mod host;
 mod memory;
 mod outside;
+mod sure;
 
 pub use failed::{CallKind, FailedCall, FailedCalls};
 pub use host::{HostOut, HostShelf};
 pub use memory::{MemoryOut, MemoryShelf, Trip};
 pub use outside::{Out, ReadAnswer, Shelf, WriteAnswer};
+pub use sure::{SureOut, SureShelf};
 
 #[cfg(test)]
 mod tests;

@@ -1,6 +1,6 @@
 //! A shelf and an out in memory, whose calls can be made to fail.
 
-ghost use Rattle.std.specs.Prelude.{◌≡◌, ◌≤◌, List, ℕ, OnOk, OnErr, IfOk, IfErr, Some, None, length, option_map};
+ghost use Rattle.std.specs.Prelude.{◌≡◌, ◌≤◌, List, ℕ, OnOk, OnErr, IfOk, IfErr, IsErrOf, Some, None, length, option_map};
 ghost use Rattle.std.specs.Vec.{vec_len, vec_capacity};
 ghost use Rattle.std.specs.BTreeMap.{get_by_text};
 ghost use Rattle.cn_outside.specs.Shelf.{ReadsHeld, NamesLimit};
@@ -83,7 +83,7 @@ impl MemoryShelf {
 }
 
 /// What a shelf that holds these texts reads under the name.
-fn text_of(
+pub fn text_of(
     alloc: Global,
     files: &BTreeMap<String, Vec<u8>>,
     name: &str,
@@ -91,6 +91,7 @@ fn text_of(
 ) -> Result<Vec<u8>, ReadAnswer>
     ensures within { IfOk result (λ bytes. length bytes.items ≤ limit) }
     ensures content { ReadsHeld (option_map (λ v. v.items) (get_by_text files.now name.now)) limit result }
+    ensures absent { IsErrOf result ReadAnswer.Failed → get_by_text files.now name.now ≡ None }
     ensures limit { IfErr result (NamesLimit limit) }
 {
     match files.get(name) {

@@ -75,3 +75,29 @@ fn output_of_the_host(rt: HostRuntime) -> Result<(), Fail> {
     assert!(rt; out.put(alloc, b"").is_ok());
     Ok(())
 }
+
+// A read of a name that isn't held fails, and no other call does.
+#[test]
+fn sure_calls(rt: HostRuntime) -> Result<(), Fail> {
+    let alloc = rt.alloc();
+    let mut shelf = SureShelf::new(alloc);
+    shelf.hold(alloc, "a", b"one")?;
+    assert!(rt; shelf.write(alloc, "b", b"two").is_ok());
+    assert!(rt;
+        shelf
+            .read(alloc, "b", 3)
+            .is_ok_and(|b| b.as_slice() == b"two".as_slice())
+    );
+    assert!(rt; matches!(shelf.read(alloc, "c", 3), Err(ReadAnswer::Failed)));
+    assert!(rt;
+        matches!(
+            shelf.read(alloc, "a", 2),
+            Err(ReadAnswer::TooLong { limit: 2 })
+        )
+    );
+    let mut out = SureOut::new(alloc);
+    assert!(rt; out.put(alloc, b"one").is_ok());
+    assert!(rt; out.put(alloc, b"two").is_ok());
+    assert_eq!(rt; out.taken(), b"onetwo".as_slice());
+    Ok(())
+}
