@@ -9,7 +9,7 @@ fn names(rt: HostRuntime) -> Result<(), Fail> {
     let alloc = rt.alloc();
     for (text, is_name) in [
         ("t1", true),
-        ("a-b_c.D9", true),
+        ("a-b_c.9Z", true),
         ("abcdefghijklmnopqrstuvwxyz012345", true),
         ("", false),
         ("abcdefghijklmnopqrstuvwxyz0123456", false),
