@@ -1,7 +1,7 @@
 -- What a device offers to another, and what that one accepts.
 -- A rule of BGP stands here once, as three definitions of a directed link: what export permits, what import permits, and
 -- how many copies of the AS number are put in front.
-use Rattle.std.specs.Prelude.{ℕ, ◌+◌, ◌++◌, Bool, true, false, not, ◌&&◌, nat_le, if◌then◌else◌, List, length, replicate, Option, Some, None, option_and_then, option_map, unwrap_or}
+use Rattle.std.specs.Prelude.{ℕ, ◌++◌, Bool, true, false, not, ◌&&◌, nat_le, if◌then◌else◌, List, length, replicate, Option, Some, None, option_and_then, option_map, unwrap_or}
 use Rattle.cn_base.specs.Cidr.{Cidr}
 use Rattle.cn_base.specs.Paths.{holds_asn}
 use Rattle.cn_base.specs.declared.ids.Asn.{Asn}

@@ -3,8 +3,15 @@ pub mod Valid
 pub mod Drafted
 pub mod Exchange
 pub mod Neighbours
+pub mod Candidates
+pub mod Stable
+pub mod OneState
+pub mod Restriction
+pub mod Records
 pub mod Kept
 pub mod Numbered
 pub mod Ends
 pub mod Islands
 pub mod Certificate
+pub mod Boundary
+pub mod Opening

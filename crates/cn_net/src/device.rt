@@ -1,5 +1,7 @@
 //! Devices and links, by number.
 
+ghost use Rattle.std.specs.Prelude.{◌≡◌};
+
 use cn_base::{Asn, DeviceId, Items, Name, Origin, Prefix, RouterId};
 
 /// A prefix that a device originates, and the ORIGIN with which it does (RFC 4271, 5.1.1).
@@ -31,4 +33,16 @@ pub struct Link {
     pub a: DeviceId,
     pub b: DeviceId,
     pub up: bool,
+}
+
+impl Body {
+    ghost use Rattle.cn_net.specs.Network.{own_of};
+
+    /// The ORIGIN with which a device with this body originates a prefix, and none where it doesn't.
+    pub fn own_origin(&self, prefix: &Prefix) -> Option<Origin>
+        ensures { result ≡ own_of self.now prefix.now }
+    {
+        let found = self.own.items().iter().find(|own| own.prefix == *prefix);
+        found.map(|own| own.origin)
+    }
 }

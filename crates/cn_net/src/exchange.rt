@@ -40,12 +40,19 @@ impl Body {
         1
     }
 
-    /// Holds where a device with this body accepts a route from a peer.
+    /// Holds where a device with this body accepts a route with this prefix and path from a peer.
     #[tactic(auto, unfolding(crate::specs::Exchange::accepts))]
+    fn accepts_path(&self, from: DeviceId, prefix: &Prefix, path: &AsPath) -> bool
+        ensures { (origin : OriginValue) → result ≡ accepts self.now from (record { prefix = prefix.now; path = path.now; origin = origin }) }
+    {
+        !path.contains(self.asn) && self.import_permits(from, prefix)
+    }
+
+    /// Holds where a device with this body accepts a route from a peer.
     pub fn accepts(&self, from: DeviceId, route: &Route) -> bool
         ensures { result ≡ accepts self.now from route.now }
     {
-        !route.path.contains(self.asn) && self.import_permits(from, &route.prefix)
+        self.accepts_path(from, &route.prefix, &route.path)
     }
 
     /// Holds where something is offered to a peer of a route with this prefix and path.
@@ -73,24 +80,27 @@ impl Body {
         copies_in_front && path_behind
     }
 
-    /// What a device with this body offers to a peer of a route, if the link to it is up.
+    /// What a device with this body offers to a peer of the route with this prefix, path and ORIGIN, if
+    /// the link to it is up.
     #[tactic(auto, unfolding(crate::specs::Exchange::offered, crate::specs::Exchange::offered_path))]
     fn offered(
         &self,
         alloc: Global,
         peer: DeviceId,
-        route: &Route,
+        prefix: &Prefix,
+        path: &AsPath,
+        origin: Origin,
     ) -> Result<Option<Route>, AllocError>
-        ensures { IfOk result (λ o. o ≡ offered self.now peer route.now) }
+        ensures { IfOk result (λ o. o ≡ offered self.now peer (record { prefix = prefix.now; path = path.now; origin = origin })) }
     {
-        if !self.export_permits(peer, &route.prefix) {
+        if !self.export_permits(peer, prefix) {
             return Ok(None);
         }
-        let path = route.path.extended(alloc, self.asn, self.copies(peer))?;
+        let path = path.extended(alloc, self.asn, self.copies(peer))?;
         Ok(path.map(|path| Route {
-            prefix: route.prefix,
+            prefix: *prefix,
             path,
-            origin: route.origin,
+            origin,
         }))
     }
 }
@@ -98,7 +108,6 @@ impl Body {
 impl Net {
     /// What `a` offers to `b` of a route. None where the link between them is missing or down, where
     /// export denies the prefix, or where the longer path would have more than 255 numbers.
-    #[tactic(auto, unfolding(crate::specs::Exchange::offer))]
     pub fn offer(
         &self,
         alloc: Global,
@@ -110,11 +119,29 @@ impl Net {
         requires b { IsDevice self.now b }
         ensures { IfOk result (λ o. o ≡ offer self.now a b route.now) }
     {
+        self.offer_path(alloc, a, b, &route.prefix, &route.path, route.origin)
+    }
+
+    /// The same, of the route with this prefix, path and ORIGIN, which need not lie in one place.
+    #[tactic(auto, unfolding(crate::specs::Exchange::offer))]
+    pub fn offer_path(
+        &self,
+        alloc: Global,
+        a: DeviceId,
+        b: DeviceId,
+        prefix: &Prefix,
+        path: &AsPath,
+        origin: Origin,
+    ) -> Result<Option<Route>, AllocError>
+        requires a { IsDevice self.now a }
+        requires b { IsDevice self.now b }
+        ensures { IfOk result (λ o. o ≡ offer self.now a b (record { prefix = prefix.now; path = path.now; origin = origin })) }
+    {
         if self.link(a, b) != Some(true) {
             return Ok(None);
         }
         match self.device(a) {
-            Some(device) => device.body.offered(alloc, b, route),
+            Some(device) => device.body.offered(alloc, b, prefix, path, origin),
             None => Ok(None),
         }
     }
@@ -162,14 +189,22 @@ impl Net {
         }
     }
 
-    /// Holds where `b` accepts a route from `a`. It takes no memory.
+    /// Holds where `b` accepts a route with this prefix and path from `a` (RFC 4271, 9.1.2). It takes no
+    /// memory.
     #[tactic(auto, unfolding(crate::specs::Exchange::accept))]
+    pub fn accepts_path(&self, b: DeviceId, a: DeviceId, prefix: &Prefix, path: &AsPath) -> bool
+        ensures { (origin : OriginValue) → result ≡ accept self.now b a (record { prefix = prefix.now; path = path.now; origin = origin }) }
+    {
+        self.device(b)
+            .is_some_and(|device| device.body.accepts_path(a, prefix, path))
+    }
+
+    /// Holds where `b` accepts a route from `a`. It takes no memory.
     pub fn accept(&self, b: DeviceId, a: DeviceId, route: &Route) -> bool
         requires b { IsDevice self.now b }
         requires a { IsDevice self.now a }
         ensures { result ≡ accept self.now b a route.now }
     {
-        self.device(b)
-            .is_some_and(|device| device.body.accepts(a, route))
+        self.accepts_path(b, a, &route.prefix, &route.path)
     }
 }

@@ -1,11 +1,20 @@
 //! Laws of the definitions. Each function does nothing; its contract is the law.
 
-ghost use Rattle.std.specs.Prelude.{◌≡◌, Bool, Option};
+ghost use Rattle.std.specs.Prelude.{◌≡◌, ℕ, Bool, Option};
+ghost use Rattle.cn_base.specs.Cidr.{Cidr};
 ghost use Rattle.cn_base.specs.declared.ids.DeviceId.{DeviceId};
+ghost use Rattle.cn_base.specs.declared.route.Choice.{Choice};
+ghost use Rattle.cn_base.specs.declared.route.Route.{Route};
+ghost use Rattle.cn_net.specs.Boundary.{AgreeInside, IsBounded, IsStableInside, NoForeignOffer, OutsideAsRecorded, RoutesCross};
+ghost use Rattle.cn_net.specs.Candidates.{IsBest, best_of};
 ghost use Rattle.cn_net.specs.Certificate.{IsCertified};
 ghost use Rattle.cn_net.specs.Drafted.{draft_of};
-ghost use Rattle.cn_net.specs.Islands.{IsIslands};
+ghost use Rattle.cn_net.specs.Islands.{IsFitting, IsIslands};
 ghost use Rattle.cn_net.specs.Network.{Network, IsDevice};
+ghost use Rattle.cn_net.specs.OneState.{HasOneStableState, HasOneStableStateFor, RoundsAgree};
+ghost use Rattle.cn_net.specs.Records.{AreSound, SaysItsOwn};
+ghost use Rattle.cn_net.specs.Restriction.{restricted};
+ghost use Rattle.cn_net.specs.Stable.{Assignment};
 ghost use Rattle.cn_net.specs.Valid.{IsValid};
 
 /// A draft stands for at most one valid network.
@@ -21,4 +30,82 @@ pub fn islands_are_one()
 /// Where two labellings agree on all devices and one of them has the certificate, so has the other.
 pub fn certified_alike()
     ensures { (net : Network) (outside : DeviceId → Bool) (x y : DeviceId → Option DeviceId) → ((d : DeviceId) → IsDevice net d → x d ≡ y d) → IsCertified net outside x → IsCertified net outside y }
+{}
+
+/// What `best_of` computes is the best of a device's candidates (RFC 4271, 9.1.2.2).
+pub fn best_is_best()
+    ensures { (net : Network) (came : DeviceId → Option Route) (b : DeviceId) (p : Cidr)
+        → IsBest net came b p (best_of net came b p) }
+{}
+
+/// In a valid network nothing else is: the best of a device's candidates is one choice, or none.
+pub fn best_is_one()
+    ensures { (net : Network) (came : DeviceId → Option Route) (b : DeviceId) (p : Cidr) (o : Option Choice)
+        → IsValid net → IsBest net came b p o → o ≡ best_of net came b p }
+{}
+
+/// A valid network has exactly one stable state.
+pub fn one_stable_state()
+    ensures { (net : Network) → IsValid net → HasOneStableState net }
+{}
+
+/// The same for some of its devices and one prefix: where the choices of the others are given, exactly
+/// one assignment to these devices is stable for the prefix.
+pub fn one_stable_state_for()
+    ensures { (net : Network) (s : DeviceId → Bool) (p : Cidr) (given : Assignment)
+        → IsValid net → HasOneStableStateFor net s p given }
+{}
+
+/// Any two assignments to some of its devices, where the others hold the same, agree on all routes
+/// shorter than k when each of these devices has decided k times.
+pub fn rounds_agree()
+    ensures { (net : Network) (s : DeviceId → Bool) (p : Cidr) (x y : ℕ → Assignment)
+        → IsValid net → RoundsAgree net s p x y }
+{}
+
+/// A valid network with some of its devices alone is valid, so it has one stable state too.
+pub fn restricted_is_valid()
+    ensures { (net : Network) (s : DeviceId → Bool) → IsValid net → IsValid (restricted net s) }
+{}
+
+/// Where no device of a set originates a prefix, each route to it that a device of the set holds in a
+/// stable state came into the set from a device that isn't in it, and the AS number of that device stands
+/// in its path.
+pub fn routes_cross()
+    ensures { (net : Network) (s : DeviceId → Bool) (held : Assignment) (p : Cidr)
+        → RoutesCross net s held p }
+{}
+
+/// The labels of the islands fit.
+pub fn islands_fit()
+    ensures { (net : Network) (outside : DeviceId → Bool) (label : DeviceId → Option DeviceId)
+        → IsIslands net outside label → IsFitting net outside label }
+{}
+
+/// Behind a certified boundary, where the records are sound, each outside device holds in the stable state
+/// of the whole network what is recorded of it for the prefixes of its island. The labels are any that
+/// fit.
+pub fn outside_as_recorded()
+    ensures { (net : Network) (outside : DeviceId → Bool) (label : DeviceId → Option DeviceId)
+        (said state : Assignment)
+        → IsBounded net outside label state → AreSound net outside label said
+        → OutsideAsRecorded net label said state }
+{}
+
+/// Behind a certified boundary no emulated device accepts from an outside device a route to a prefix that
+/// isn't of that device's island: its own AS number stands in the path (RFC 4271, 9.1.2).
+pub fn no_foreign_offer()
+    ensures { (net : Network) (outside : DeviceId → Bool) (label : DeviceId → Option DeviceId)
+        (state : Assignment)
+        → IsBounded net outside label state → NoForeignOffer net outside label state }
+{}
+
+/// So emulated devices that hold their best, where the outside devices say what is recorded of them and
+/// never react, hold what they hold in the one stable state of the whole network.
+pub fn quiet_is_stable()
+    ensures { (net : Network) (outside : DeviceId → Bool) (label : DeviceId → Option DeviceId)
+        (said held state : Assignment)
+        → IsBounded net outside label state → AreSound net outside label said
+        → SaysItsOwn net label said → IsStableInside net outside said held
+        → AgreeInside net outside held state }
 {}

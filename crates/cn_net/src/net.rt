@@ -1,12 +1,12 @@
 //! The network as a value.
 
-ghost use Rattle.std.specs.Prelude.{◌≡◌, ◌≢◌, ◌<◌, ◌^◌, ◌↔◌, All, length, MatchOption, IfOk, IfErr};
+ghost use Rattle.std.specs.Prelude.{◌≡◌, ◌≢◌, ◌<◌, ◌^◌, ◌↔◌, All, length, map, MatchOption, IfOk, IfErr};
 ghost use Rattle.std.specs.List.{AllPairs, Any};
 ghost use Rattle.std.specs.Option.{option_copied};
 ghost use Rattle.cn_base.specs.declared.ids.DeviceId.{DeviceId};
 ghost use Rattle.cn_net.specs.Drafted.{IfFault, StandsForNone, draft_of};
 ghost use Rattle.cn_net.specs.Neighbours.{TellsOfLink};
-ghost use Rattle.cn_net.specs.Network.{IsDevice, IsLinked, asn_of, device_of, link_between, name_of};
+ghost use Rattle.cn_net.specs.Network.{IsDevice, IsLinked, asn_of, device_of, link_between, name_of, own_origin, peers_of, router_of};
 ghost use Rattle.cn_net.specs.Valid.{IsValid};
 
 use crate::device::{Device, Link};
@@ -15,7 +15,7 @@ use crate::fault::NetAnswer;
 use crate::make::{copied_devices, few_parts, joined_links};
 use crate::neighbours::{Neighbour, neighbours_of};
 use crate::repeat::{distinct_devices, few_prefixes};
-use cn_base::{Asn, DeviceId, Items};
+use cn_base::{Asn, DeviceId, Items, Origin, Prefix, RouterId};
 use indexmap::IndexSet;
 use std::alloc::Global;
 use std::marker::Model;
@@ -119,6 +119,27 @@ impl Net {
         }
     }
 
+    /// The BGP Identifier of a device, and 0 where there is no such device (RFC 4271, 4.2).
+    pub fn router(&self, d: DeviceId) -> RouterId
+        ensures { result ≡ router_of self.now d }
+    {
+        match self.device(d) {
+            Some(device) => device.id,
+            None => RouterId(0),
+        }
+    }
+
+    /// The ORIGIN with which a device originates a prefix (RFC 4271, 5.1.1). None comes exactly where it
+    /// doesn't originate the prefix or there is no such device.
+    pub fn own_origin(&self, d: DeviceId, prefix: &Prefix) -> Option<Origin>
+        ensures { result ≡ own_origin self.now d prefix.now }
+    {
+        match self.device(d) {
+            Some(device) => device.body.own_origin(prefix),
+            None => None,
+        }
+    }
+
     /// Whether the link of two devices is up. None comes exactly where they aren't linked.
     pub fn link(&self, a: DeviceId, b: DeviceId) -> Option<bool>
         ensures { result ≡ link_between self.now a b }
@@ -142,6 +163,7 @@ impl Net {
         ensures links { All (TellsOfLink self.now.links) result.now }
         ensures linked { (b : DeviceId) → (Any (λ n. n.device ≡ b) result.now ↔ IsLinked self.now d b) }
         ensures ascending { AllPairs (λ x y. x.device.0 < y.device.0) result.now }
+        ensures peers { map (λ n. n.device) result.now ≡ peers_of self.now d }
     {
         let end = self.neighbours.partition_point(|n| n.of <= d);
         let front = &self.neighbours[..end];

@@ -2,7 +2,7 @@
 
 ghost use Rattle.std.specs.Prelude.{◌≡◌, ◌<◌, ◌^◌, All, length};
 ghost use Rattle.cn_base.specs.declared.ids.DeviceId.{DeviceId as DeviceNumber};
-ghost use Rattle.cn_net.specs.Islands.{label_of, holds_device};
+ghost use Rattle.cn_net.specs.Islands.{IsAscending, label_of, holds_device};
 ghost use Rattle.cn_net.specs.Network.{IsDevice};
 
 use crate::net::Net;
@@ -44,7 +44,8 @@ impl DeviceSet {
 
     /// The numbers, ascending.
     pub fn items(&self) -> &[DeviceId]
-        ensures { result.now ≡ self.now }
+        ensures same { result.now ≡ self.now }
+        ensures ascending { IsAscending self.now }
     {
         self.devices.as_slice()
     }

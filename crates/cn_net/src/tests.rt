@@ -136,6 +136,23 @@ fn five_are_read(rt: HostRuntime) -> Result<(), Fail> {
     Ok(())
 }
 
+// The router ids, and whether they originate the second rack's prefix.
+#[test]
+fn five_are_told_apart(rt: HostRuntime) -> Result<(), Fail> {
+    let net = five(rt.alloc())?;
+    let prefix = Prefix::new(0x0A01_0200, 24).ok_or("no prefix")?;
+    for (number, id, origin) in [
+        (0u32, 0x0A00_0001u32, None),
+        (1, 0x0A00_0002, Some(Origin::Igp)),
+        (4, 0x0A00_0201, None),
+        (5, 0, None),
+    ] {
+        assert_eq!(rt; net.router(DeviceId(number)).0, id);
+        assert_eq!(rt; net.own_origin(DeviceId(number), &prefix), origin);
+    }
+    Ok(())
+}
+
 #[test]
 fn five_are_linked(rt: HostRuntime) -> Result<(), Fail> {
     let net = five(rt.alloc())?;

@@ -4,6 +4,7 @@ use Rattle.std.proofs.lemmas.List.Sorted.{IsPartitionPoint-from_clause, IsPartit
 use Rattle.std.proofs.lemmas.Slice.{between_to_end}
 use Rattle.cn_net.specs.Kept.{IsKept}
 use Rattle.cn_net.specs.declared.neighbours.Neighbour.{Neighbour}
+use Rattle.cn_net.proofs.Peers.{peers_seen}
 use Rattle.cn_net.proofs.Parts.{IsPart, all_of, ends_rise, front_rises, part_ascends, part_linked, part_made}
 use Rattle.cn_net.proofs.net.Net.neighbours.Goals as goal
 
@@ -38,3 +39,6 @@ returns-clause-linked c = λ b. part_linked c.args.self.now.links c.args.d b c.d
 
 pub returns-clause-ascending : goal.returns-clause-ascending
 returns-clause-ascending c = part_ascends c.args.d c.deref-2.result.now _ c.partition_point-start.result c.partition_point-end.result (kept c).joined.ascending (cut c)
+
+pub returns-clause-peers : goal.returns-clause-peers
+returns-clause-peers c = peers_seen c.args.self.now c.args.d _ (kept c).valid (returns-clause-ascending c) (returns-clause-linked c)

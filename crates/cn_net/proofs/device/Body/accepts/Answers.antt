@@ -1,0 +1,4 @@
+use Rattle.cn_net.proofs.device.Body.accepts.Goals as goal
+
+pub returns : goal.returns
+returns c = c.accepts_path.ensures c.args.route.now.origin

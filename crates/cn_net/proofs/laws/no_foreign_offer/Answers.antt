@@ -1,0 +1,5 @@
+use Rattle.cn_net.proofs.Boundary.{refused_by_emulated}
+use Rattle.cn_net.proofs.laws.no_foreign_offer.Goals as goal
+
+pub returns : goal.returns
+returns c = λ net outside label state b. refused_by_emulated net outside label b.fitting b.certified state b.stable
