@@ -1,3 +1,4 @@
+pub mod Documents
 pub mod ItemLoop
 pub mod KeyLoop
 pub mod KeyOrder

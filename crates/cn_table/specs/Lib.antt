@@ -1,3 +1,4 @@
 pub mod Reading
+pub mod Document
 pub mod Tables
 pub mod Order

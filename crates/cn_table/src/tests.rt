@@ -51,3 +51,13 @@ fn keys(rt: HostRuntime) -> Result<(), Fail> {
     }
     Ok(())
 }
+
+// Bytes that are a table, bytes that are no text, and a text that is no table.
+#[test]
+fn documents(rt: HostRuntime) -> Result<(), Fail> {
+    let alloc = rt.alloc();
+    assert!(rt; document_of(alloc, b"a = 1\n").is_ok_and(|table| table.len() == 1));
+    assert!(rt; matches!(document_of(alloc, b"a = \xFF"), Err(TextAnswer::NotUtf8)));
+    assert!(rt; matches!(document_of(alloc, b"a ="), Err(TextAnswer::NotToml)));
+    Ok(())
+}

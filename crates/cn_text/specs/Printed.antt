@@ -1,7 +1,8 @@
--- The one spelling of an address and of a prefix.
-use Rattle.std.specs.Prelude.{ℕ, ◌/◌, ◌%◌, codes, List, ◌++◌}
+-- The one spelling of an address, of a prefix and of a path.
+use Rattle.std.specs.Prelude.{ℕ, ◌/◌, ◌%◌, codes, List, [], ◌∷◌, ◌++◌, flat_map}
 use Rattle.std.specs.Fmt.{decimal}
 use Rattle.cn_base.specs.Cidr.{Cidr}
+use Rattle.cn_base.specs.declared.ids.Asn.{Asn}
 
 -- the four octets, joined by dots
 abbrev pub address : ℕ → List ℕ
@@ -10,3 +11,12 @@ address n = decimal (n / 16777216) ++ codes "." ++ decimal (n / 65536 % 256) ++ 
 -- an address, a slash and the length
 abbrev pub prefix_text : Cidr → List ℕ
 prefix_text p = address p.bits ++ codes "/" ++ decimal p.len
+
+-- numbers, each after a space
+abbrev pub further_numbers : List Asn → List ℕ
+further_numbers numbers = flat_map (λ n. codes " " ++ decimal n.0) numbers
+
+-- the numbers, joined by one space each; `-` where there are none
+abbrev pub path_text : List Asn → List ℕ
+path_text [] = codes "-"
+path_text (n ∷ ns) = decimal n.0 ++ further_numbers ns

@@ -1,10 +1,10 @@
 //! What the project's texts are made of, and why a text stands for nothing.
 //!
-//! The atoms of texts are numbers, addresses and prefixes. `read_*` reads one at a place of a text, and
-//! `put_*` appends one. Each has one spelling: `specs/Number.antt` and `specs/Atoms.antt` say what is
-//! read, `specs/Printed.antt` what is printed, and the laws here that the two are the same. A string of
-//! a plan is an atom as a whole, which `whole` tests. The crates above also take from here the one type
-//! of the first fault of a text, `TextAnswer`.
+//! The atoms of texts are numbers, addresses, prefixes and paths. `read_*` reads one at a place of a text,
+//! and `put_*` appends one; a path is appended alone. Each has one spelling: `specs/Number.antt` and
+//! `specs/Atoms.antt` say what is read, `specs/Printed.antt` what is printed, and the laws here that the
+//! two are the same. A string of a plan is an atom as a whole, which `whole` tests. The crates above also
+//! take from here the one type of the first fault of a text, `TextAnswer`.
 #![tactic(auto)]
 
 mod answer;
@@ -18,7 +18,7 @@ pub use atoms::{
     read_prefix, whole,
 };
 pub use number::{Bad, number_has_one_spelling, read_number};
-pub use print::{put_address, put_number, put_prefix};
+pub use print::{put_address, put_number, put_path, put_prefix};
 
 #[cfg(test)]
 mod tests;

@@ -1,10 +1,11 @@
-//! Atoms at the end of a text. Each is put by one call, so that want of memory leaves the text as before.
+//! Atoms at the end of a text. Want of memory leaves the text as before: most are put by one call, and of a
+//! path what was put is taken back.
 
-ghost use Rattle.std.specs.Prelude.{◌≡◌, ◌++◌, IfOk, OnOk, OnErr, string_bytes};
+ghost use Rattle.std.specs.Prelude.{◌≡◌, ◌++◌, IfOk, OnOk, OnErr, length, string_bytes, take};
 ghost use Rattle.std.specs.Fmt.{decimal};
-ghost use Rattle.cn_text.specs.Printed.{address, prefix_text};
+ghost use Rattle.cn_text.specs.Printed.{address, further_numbers, path_text, prefix_text};
 
-use cn_base::Prefix;
+use cn_base::{AsPath, Asn, Prefix};
 use std::alloc::{AllocError, Global};
 
 /// Appends a number.
@@ -44,4 +45,43 @@ pub fn put_prefix(alloc: Global, out: &mut Vec<u8>, prefix: &Prefix) -> Result<(
     let len = prefix.len();
     let text = format!(in alloc; "{address}/{len}")?;
     out.extend_from_slice(text.as_bytes())
+}
+
+/// Appends numbers, each after a space. After want of memory a part of them may stand there.
+fn put_further(alloc: Global, out: &mut Vec<u8>, numbers: &[Asn]) -> Result<(), AllocError>
+    ensures ok { OnOk result (out.new.items ≡ out.old.items ++ further_numbers numbers.now) }
+    ensures err { OnErr result (take (length out.old.items) out.new.items ≡ out.old.items) }
+{
+    for number in numbers {
+        out.extend_from_slice(b" ")?;
+        put_number(alloc, out, u64::from(number.0))?;
+    }
+    Ok(())
+}
+
+/// Appends the numbers of a path. After want of memory a part of them may stand there.
+fn put_numbers(alloc: Global, out: &mut Vec<u8>, numbers: &[Asn]) -> Result<(), AllocError>
+    ensures ok { OnOk result (out.new.items ≡ out.old.items ++ path_text numbers.now) }
+    ensures err { OnErr result (take (length out.old.items) out.new.items ≡ out.old.items) }
+{
+    match numbers {
+        [] => out.extend_from_slice(b"-"),
+        [first, others @ ..] => {
+            put_number(alloc, out, u64::from(first.0))?;
+            put_further(alloc, out, others)
+        }
+    }
+}
+
+/// Appends a path.
+pub fn put_path(alloc: Global, out: &mut Vec<u8>, path: &AsPath) -> Result<(), AllocError>
+    ensures ok { OnOk result (out.new.items ≡ out.old.items ++ path_text path.now) }
+    ensures err { OnErr result (out.new.items ≡ out.old.items) }
+{
+    let before = out.len();
+    let put = put_numbers(alloc, out, path.items());
+    if put.is_err() {
+        out.truncate(before);
+    }
+    put
 }

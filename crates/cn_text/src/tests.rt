@@ -1,5 +1,5 @@
 use super::*;
-use cn_base::Prefix;
+use cn_base::{AsPath, Asn, Prefix};
 use std::test::Fail;
 
 // Texts, the place where a number up to 255 is read, and the number with the place after it, or the octet refused.
@@ -83,5 +83,19 @@ fn prints(rt: HostRuntime) -> Result<(), Fail> {
         out.as_slice(),
         b"18446744073709551615 10.0.1.2 10.1.1.0/24".as_slice()
     );
+    Ok(())
+}
+
+#[test]
+fn prints_paths(rt: HostRuntime) -> Result<(), Fail> {
+    let alloc = rt.alloc();
+    let mut out = Vec::new(alloc);
+    put_path(alloc, &mut out, &AsPath::empty(alloc))?;
+    out.extend_from_slice(b", ")?;
+    let numbers = vec![in alloc; Asn(65201), Asn(65102), Asn(4_294_967_295)]?;
+    if let Some(path) = AsPath::make(numbers) {
+        put_path(alloc, &mut out, &path)?;
+    }
+    assert_eq!(rt; out.as_slice(), b"-, 65201 65102 4294967295".as_slice());
     Ok(())
 }
