@@ -1,0 +1,262 @@
+-- What every step keeps.
+use Rattle.std.proofs.Common.{◌≡◌, ◌≢◌, ◌<◌, ◌≤◌, true, false, cond, not, List, [], ◌∷◌, ◌++◌, length, Option, Some, None, refl, sym, ap, ◌∙◌, subst, inl, inr, arith, true≢false}
+use Rattle.std.specs.Prelude.{◌&&◌, ◌⊎◌, All, IsTrue, unwrap_or}
+use Rattle.std.specs.List.{find, fold}
+use Rattle.std.specs.FinMap.{FinMap}
+use Rattle.std.specs.FinMap as fin
+use Rattle.std.proofs.lemmas.Bool.{cases_lt}
+use Rattle.std.proofs.lemmas.Bool.Decides.{nat_tests}
+use Rattle.std.proofs.lemmas.List.{length-append, length-set}
+use Rattle.cn_base.specs.Cidr.{Cidr, same_prefix}
+use Rattle.cn_base.specs.Table.{prefix_cmp}
+use Rattle.cn_base.specs.declared.ids.DeviceId.{DeviceId}
+use Rattle.cn_base.specs.declared.route.Choice.{Choice}
+use Rattle.cn_rib.specs.PrefixSet as prefixes
+use Rattle.cn_rib.specs.declared.attributes.Attributes.{Attributes}
+use Rattle.cn_rib.proofs.Keyed.{contains-empty, contains-remove, get_inserted, get_removed, inserted_elsewhere, not_inserted, removed_elsewhere}
+use Rattle.cn_rib.proofs.Prefixes.{same_tells}
+use Rattle.cn_net.specs.Candidates.{best_of}
+use Rattle.cn_net.specs.Islands.{holds_device}
+use Rattle.cn_net.specs.Network.{IsDevice, same_device}
+use Rattle.cn_net.specs.Opening.{Opening}
+use Rattle.cn_net.proofs.Keys.{same_device-Decides}
+use Rattle.cn_core.specs.declared.event.Event.TheVariants.{Receive, Decide, Send}
+use Rattle.cn_core.specs.declared.event.Step.{Step}
+use Rattle.cn_core.specs.declared.event.Step.TheVariants.{Work, Mark}
+use Rattle.cn_core.specs.declared.message.Message.{Message}
+use Rattle.cn_core.specs.declared.message.Message.TheVariants.{Withdraw, Announce}
+use Rattle.cn_core.specs.declared.session.Rib.{Rib}
+use Rattle.cn_core.specs.declared.session.Session.{Session}
+use Rattle.cn_core.specs.Laws.{CleanIsDecided, IsKept, RunLaw, ends_of, held_in, links_into}
+use Rattle.cn_core.specs.Machine.{IsEnabled, IsRun, IsRunFrom, came_at, can, decide, put_choice, put_out, receive, send, soiled, start, state, step, taken_in, with_rib, with_session}
+use Rattle.cn_core.specs.State.{CoreState, apply, apply_all, empty_session, is_session, owed_by, prefix_of, rib, session}
+use Rattle.cn_core.proofs.Access.{KeepsEnds, all_at_first, came_kept, came_of_rib, ends_are, ends_kept, found_has, found_is, rib_of_session, rib_other, rib_past, rib_same}
+use Rattle.cn_core.proofs.Ends.{all_by_ends, links_within}
+use Rattle.cn_core.proofs.Opened.{kept_start}
+
+-- ---- messages
+
+-- a message changes its own prefix alone
+apply_other : (x : FinMap prefix_cmp Attributes) (m : Message) (q : Cidr) → same_prefix q (prefix_of m) ≡ false → fin.get (apply x m) q ≡ fin.get x q
+apply_other x (Withdraw p) q e = removed_elsewhere x p q e
+apply_other x (Announce p h) q e = inserted_elsewhere x p h q e
+
+apply_all_push : (x : FinMap prefix_cmp Attributes) (ms : List Message) (m : Message) → apply_all x (ms ++ m ∷ []) ≡ apply (apply_all x ms) m
+apply_all_push x [] m = refl
+apply_all_push x (y ∷ ys) m = apply_all_push (apply x y) ys m
+
+IsInTransit : Session → Type 0
+IsInTransit x = apply_all x.came x.mail ≡ x.sent
+
+taken_transit : (m : Message) (rest : List Message) (x : Session) → x.mail ≡ m ∷ rest → IsInTransit x → IsInTransit (taken_in m rest x)
+unfolding IsInTransit
+taken_transit m rest x e t = ap (apply_all x.came) (sym e) ∙ t
+
+put_out_transit : (m : Message) (x : Session) → IsInTransit x → IsInTransit (put_out m x)
+unfolding IsInTransit
+put_out_transit m x t = apply_all_push x.came x.mail m ∙ ap (λ c. apply c m) t
+
+taken_ends : (m : Message) (rest : List Message) → KeepsEnds (taken_in m rest)
+taken_ends m rest = record { from = λ x. refl; to = λ x. refl }
+
+put_out_ends : (m : Message) → KeepsEnds (put_out m)
+put_out_ends m = record { from = λ x. refl; to = λ x. refl }
+
+-- ---- all that is kept but what is decided
+
+record IsSound (o : Opening) (s : CoreState) : Type 0 where
+  net : s.net ≡ o.net
+  ends : ends_of s.sessions ≡ links_into o
+  ribs : length s.ribs ≡ length o.net.devices
+  transit : All IsInTransit s.sessions
+  few : All (λ x. length x.mail ≤ 64) s.sessions
+
+sound_of : (o : Opening) (s : CoreState) → IsKept o s → IsSound o s
+unfolding IsInTransit
+sound_of o s k = record { net = k.net; ends = k.ends; ribs = k.ribs; transit = k.transit; few = k.few }
+
+kept_of : (o : Opening) (s : CoreState) → IsSound o s → CleanIsDecided o s → IsKept o s
+unfolding IsInTransit
+kept_of o s k d = record { net = k.net; ends = k.ends; ribs = k.ribs; transit = k.transit; few = k.few; decided = d }
+
+-- each session keeps P where f does
+all_sessions : (P : Session → Type 0) (s : CoreState) (a b : DeviceId) (f : Session → Session) → ((x : Session) → session s a b ≡ x → P x → P (f x)) → All P s.sessions → All P (with_session s a b f).sessions
+unfolding with_session session
+all_sessions P s a b f keep all = all_at_first P (is_session a b) f s.sessions (λ x e. keep x (ap (λ o. unwrap_or o (empty_session a b)) e)) all
+
+sound_session : (o : Opening) (s : CoreState) → IsSound o s → (a b : DeviceId) (f : Session → Session) → KeepsEnds f
+    → ((y : Session) → session s a b ≡ y → IsInTransit y → IsInTransit (f y)) → ((y : Session) → session s a b ≡ y → length y.mail ≤ 64 → length (f y).mail ≤ 64) → IsSound o (with_session s a b f)
+unfolding with_session
+sound_session o s k a b f ends transit few = record {
+  net = k.net;
+  ends = ends_kept (is_session a b) f ends s.sessions ∙ k.ends;
+  ribs = k.ribs;
+  transit = all_sessions IsInTransit s a b f transit k.transit;
+  few = all_sessions (λ y. length y.mail ≤ 64) s a b f few k.few;
+}
+
+sound_rib : (o : Opening) (s : CoreState) → IsSound o s → (d : DeviceId) (x : Rib) → IsSound o (with_rib s d x)
+unfolding with_rib
+sound_rib o s k d x = record {
+  net = k.net;
+  ends = k.ends;
+  ribs = length-set s.ribs d.0 x ∙ k.ribs;
+  transit = k.transit;
+  few = k.few;
+}
+
+-- ---- the ends of the sessions are devices
+
+pub within : (o : Opening) (s : CoreState) → ends_of s.sessions ≡ links_into o → All (λ x. IsDevice o.net x.from × IsDevice o.net x.to) s.sessions
+within o s e = all_by_ends (λ (z : DeviceId × DeviceId). IsDevice o.net z.0 × IsDevice o.net z.1) s.sessions (subst (All (λ (z : DeviceId × DeviceId). IsDevice o.net z.0 × IsDevice o.net z.1)) (sym e) (links_within o))
+
+-- a session that has mail stands in the list
+has_session : (a b : DeviceId) (s : CoreState) (m : Message) (rest : List Message) → (session s a b).mail ≡ m ∷ rest → (x : Session) × (find (is_session a b) s.sessions ≡ Some x)
+unfolding session
+has_session a b s m rest e =
+    elim (find (is_session a b) s.sessions) as (λ o. (unwrap_or o (empty_session a b)).mail ≡ m ∷ rest → (x : Session) × (o ≡ Some x)) [
+      | None ↦ λ e. cc
+      | Some x ↦ λ e. (x, refl)
+    ] e
+
+receiver_in_range : (o : Opening) (s : CoreState) → IsKept o s → (a b : DeviceId) (m : Message) (rest : List Message) → (session s a b).mail ≡ m ∷ rest → b.0 < length s.ribs
+receiver_in_range o s k a b m rest e =
+    let got = has_session a b s m rest e in
+    let facts = found_has (λ x. IsDevice o.net x.from × IsDevice o.net x.to) (is_session a b) s.sessions got.0 (within o s k.ends) got.1 in
+    subst (λ l. b.0 < l) (sym k.ribs) (subst (λ (z : DeviceId). z.0 < length o.net.devices) (ends_are a b got.0 facts.1).1 facts.0.1)
+
+-- ---- what is clean is decided
+
+device_tells : (d e : DeviceId) → (d ≡ e) ⊎ (d ≢ e)
+device_tells d e = elim (same_device d e) as (λ t. same_device d e ≡ t → (d ≡ e) ⊎ (d ≢ e)) [
+  | true ↦ λ t. inl ((same_device-Decides d e).0 t)
+  | false ↦ λ t. inr (λ h. true≢false (sym ((same_device-Decides d e).1 h) ∙ t))
+] refl
+
+-- where the device d has the best of before for q, and q was clean
+decided_at : (o : Opening) (s t : CoreState) (d : DeviceId) (q : Cidr) (x : Rib) → t.net ≡ s.net → rib t d ≡ x → came_at t d q ≡ came_at s d q → fin.get x.best q ≡ fin.get (rib s d).best q → (prefixes.contains x.dirty q ≡ false → prefixes.contains (rib s d).dirty q ≡ false) → CleanIsDecided o s → holds_device o.emulated d ≡ true → prefixes.contains (rib t d).dirty q ≡ false → held_in t d q ≡ best_of t.net (came_at t d q) d q
+decided_at o s t d q x net e came best clean k m c =
+    ap (λ (y : Rib). fin.get y.best q) e ∙ best ∙ k d q m (clean (ap (λ (y : Rib). prefixes.contains y.dirty q) (sym e) ∙ c))
+    ∙ ap (λ f. best_of s.net f d q) (sym came) ∙ ap (λ n. best_of n (came_at t d q) d q) (sym net)
+
+net_of_rib : (s : CoreState) (d : DeviceId) (x : Rib) → (with_rib s d x).net ≡ s.net
+unfolding with_rib
+net_of_rib s d x = refl
+
+net_of_session : (s : CoreState) (a b : DeviceId) (f : Session → Session) → (with_session s a b f).net ≡ s.net
+unfolding with_session
+net_of_session s a b f = refl
+
+ribs_of_session : (s : CoreState) (a b : DeviceId) (f : Session → Session) → (with_session s a b f).ribs ≡ s.ribs
+unfolding with_session
+ribs_of_session s a b f = refl
+
+-- a session changes, and what it changes at its receiver becomes dirty
+module _ (o : Opening) (s : CoreState) (k : CleanIsDecided o s) (a b : DeviceId) (f : Session → Session) (ends : KeepsEnds f) (x : Rib) (inside : b.0 < length s.ribs) (best : x.best ≡ (rib s b).best)
+    (soils : (q : Cidr) → prefixes.contains x.dirty q ≡ false → (prefixes.contains (rib s b).dirty q ≡ false) × ((y : Session) → fin.get (f y).came q ≡ fin.get y.came q)) where
+  decided_touched : CleanIsDecided o (with_rib (with_session s a b f) b x)
+  decided_touched d q m c =
+      let t = with_session s a b f in
+      elim (device_tells d b) [
+        | inl same ↦
+            let in' : b.0 < length t.ribs = subst (λ l. b.0 < length l) (sym (ribs_of_session s a b f)) inside in
+            let at_b : rib (with_rib t b x) d ≡ x = ap (rib (with_rib t b x)) same ∙ rib_same t b x in' in
+            let was = soils q (ap (λ (y : Rib). prefixes.contains y.dirty q) (sym at_b) ∙ c) in
+            decided_at o s (with_rib t b x) d q x (net_of_rib t b x ∙ net_of_session s a b f) at_b (came_of_rib t d q b x ∙ came_kept s f ends a b d q (λ y is at. was.1 y))
+            (ap (λ n. fin.get n q) best ∙ ap (λ i. fin.get (rib s i).best q) (sym same)) (λ _. ap (λ i. prefixes.contains (rib s i).dirty q) same ∙ was.0) k m c
+        | inr other ↦
+            decided_at o s (with_rib t b x) d q (rib s d) (net_of_rib t b x ∙ net_of_session s a b f) (rib_other t b d x other ∙ rib_of_session s a b d f)
+            (came_of_rib t d q b x ∙ came_kept s f ends a b d q (λ y is at. absurd (other (sym at ∙ (ends_are a b y (found_is (is_session a b) s.sessions y is)).1)))) refl (λ z. z) k m c
+      ]
+
+-- ---- a receive
+
+kept_received : (o : Opening) (s : CoreState) (k : IsKept o s) (a b : DeviceId) (m : Message) (rest : List Message) → (session s a b).mail ≡ m ∷ rest → IsKept o (with_rib (with_session s a b (taken_in m rest)) b (soiled (rib s b) (prefix_of m)))
+kept_received o s k a b m rest e =
+    let f = taken_in m rest in
+    let x = soiled (rib s b) (prefix_of m) in
+    let mail : (y : Session) → session s a b ≡ y → y.mail ≡ m ∷ rest = λ y is. ap (λ (z : Session). z.mail) (sym is) ∙ e in
+    kept_of o (with_rib (with_session s a b f) b x)
+    (sound_rib o (with_session s a b f) (sound_session o s (sound_of o s k) a b f (taken_ends m rest) (λ y is t. taken_transit m rest y (mail y is) t) (λ y is t. let was : y.mail ≡ m ∷ rest = mail y is in omega (arith, ap length was, t))) b x)
+    (decided_touched o s k.decided a b f (taken_ends m rest) x (receiver_in_range o s k a b m rest e) refl
+    (λ q c. let was = not_inserted (rib s b).dirty (prefix_of m) q c in (was.1, λ y. apply_other y.came m q was.0)))
+
+-- ---- a decision
+
+-- a device with a dirty prefix has a place
+pub dirty_in_range : (s : CoreState) (d : DeviceId) (p : Cidr) → prefixes.contains (rib s d).dirty p ≡ true → d.0 < length s.ribs
+dirty_in_range s d p e =
+    elim (cases_lt d.0 (length s.ribs)) [
+      | inl in' ↦ in'
+      | inr out ↦ absurd (true≢false (sym e ∙ ap (λ (y : Rib). prefixes.contains y.dirty p) (rib_past s d out) ∙ contains-empty p))
+    ]
+
+get_put : (x : FinMap prefix_cmp Choice) (p : Cidr) (c : Option Choice) (q : Cidr) → fin.get (put_choice x p c) q ≡ cond (same_prefix q p) c (fin.get x q)
+get_put x p None q = get_removed x p q
+get_put x p (Some c) q = get_inserted x p c q
+
+module _ (o : Opening) (s : CoreState) (k : CleanIsDecided o s) (d : DeviceId) (p : Cidr) (e : prefixes.contains (rib s d).dirty p ≡ true) where
+  best_at : Option Choice
+  best_at = best_of s.net (came_at s d p) d p
+
+  result_of : Rib
+  result_of = record { best = put_choice (rib s d).best p best_at; dirty = prefixes.remove (rib s d).dirty p }
+
+  decided_decided : CleanIsDecided o (with_rib s d result_of)
+  unfolding result_of best_at
+  decided_decided i q m c =
+      let net = net_of_rib s d result_of in
+      elim (device_tells i d) [
+        | inl same ↦
+            let at_d : rib (with_rib s d result_of) i ≡ result_of = ap (rib (with_rib s d result_of)) same ∙ rib_same s d result_of (dirty_in_range s d p e) in
+            elim (same_tells q p) [
+              | inl hit ↦ ap (λ (y : Rib). fin.get y.best q) at_d ∙ get_put (rib s d).best p best_at q ∙ ap (λ t. cond t best_at (fin.get (rib s d).best q)) hit.0
+                  ∙ ap (λ z. best_of s.net (came_at s d z) d z) (sym hit.1) ∙ ap (λ z. best_of s.net (came_at s z q) z q) (sym same) ∙ ap (λ f. best_of s.net f i q) (sym (came_of_rib s i q d result_of)) ∙ ap (λ n. best_of n (came_at (with_rib s d result_of) i q) i q) (sym net)
+              | inr miss ↦
+                  decided_at o s (with_rib s d result_of) i q result_of net at_d (came_of_rib s i q d result_of)
+                  (get_put (rib s d).best p best_at q ∙ ap (λ t. cond t best_at (fin.get (rib s d).best q)) miss.0 ∙ ap (λ z. fin.get (rib s z).best q) (sym same))
+                  (λ c. ap (λ z. prefixes.contains (rib s z).dirty q) same ∙ sym (ap (λ t. not t && prefixes.contains (rib s d).dirty q) miss.0) ∙ sym (contains-remove (rib s d).dirty p q) ∙ c)
+                  k m c
+            ]
+        | inr other ↦ decided_at o s (with_rib s d result_of) i q (rib s i) net (rib_other s d i result_of other) (came_of_rib s i q d result_of) refl (λ z. z) k m c
+      ]
+
+kept_decided : (o : Opening) (s : CoreState) (k : IsKept o s) (d : DeviceId) (p : Cidr) → prefixes.contains (rib s d).dirty p ≡ true → IsKept o (decide s d p)
+unfolding result_of best_at
+kept_decided o s k d p e = kept_of o (decide s d p) (sound_rib o s (sound_of o s k) d (result_of o s k.decided d p e)) (decided_decided o s k.decided d p e)
+
+-- ---- a send
+
+kept_sent : (o : Opening) (s : CoreState) → IsKept o s → (a b : DeviceId) (m : Message) → length (session s a b).mail < 64 → IsKept o (with_session s a b (put_out m))
+kept_sent o s k a b m room =
+    let f = put_out m in
+    kept_of o (with_session s a b f)
+    (sound_session o s (sound_of o s k) a b f (put_out_ends m) (λ y is t. put_out_transit m y t) (λ y is t. let was : length y.mail < 64 = subst (λ z. length z.mail < 64) is room in simp length-append (omega (arith, was))))
+    (λ d q e c. decided_at o s (with_session s a b f) d q (rib s d) (net_of_session s a b f) (rib_of_session s a b d f) (came_kept s f (put_out_ends m) a b d q (λ x is at. refl)) refl (λ z. z) k.decided e c)
+
+-- ---- every step
+
+kept_receive : (o : Opening) (s : CoreState) → IsKept o s → (a b : DeviceId) (ms : List Message) → (session s a b).mail ≡ ms → IsKept o (receive s a b ms)
+kept_receive o s k a b [] e = k
+kept_receive o s k a b (m ∷ rest) e = kept_received o s k a b m rest e
+
+kept_send : (o : Opening) (s : CoreState) → IsKept o s → (a b : DeviceId) (m : Option Message) → length (session s a b).mail < 64 → IsKept o (send s a b m)
+kept_send o s k a b None room = k
+kept_send o s k a b (Some m) room = kept_sent o s k a b m room
+
+pub room_to_send : (s : CoreState) (a b : DeviceId) → IsTrue (can s (Send a b)) → length (session s a b).mail < 64
+room_to_send s a b h = grind (arith, nat_tests)
+
+pub kept_step : (o : Opening) (s : CoreState) → IsKept o s → (e : Step) → IsEnabled s e → IsKept o (step s e)
+kept_step o s k (Work (Receive a b)) h = kept_receive o s k a b (session s a b).mail refl
+kept_step o s k (Work (Decide d p)) h = kept_decided o s k d p h
+kept_step o s k (Work (Send a b)) h = kept_send o s k a b (owed_by s (session s a b)) (room_to_send s a b h)
+kept_step o s k (Mark i) h = k
+
+pub kept_run : (o : Opening) (s : CoreState) → IsKept o s → (h : List Step) → IsRunFrom s h → IsKept o (fold step s h)
+kept_run o s k [] run = k
+kept_run o s k (e ∷ es) run = kept_run o (step s e) (kept_step o s k e run.0) es run.1
+
+pub run_holds : RunLaw
+unfolding state IsRun
+run_holds o h run = kept_run o (start o) (kept_start o) h run

@@ -1,0 +1,153 @@
+-- The state at the start.
+use Rattle.std.proofs.Common.{◌≡◌, ◌<◌, ◌≤◌, Bool, true, false, cond, List, [], ◌∷◌, length, get_or, map, Option, Some, None, refl, sym, ap, ◌∙◌, inl, inr, arith}
+use Rattle.std.specs.Prelude.{◌||◌, All, option_and_then, option_map, unwrap_or}
+use Rattle.std.specs.List.{find, flat_map, fold, list_any}
+use Rattle.std.specs.FinMap as fin
+use Rattle.std.proofs.lemmas.Bool.{cases_lt}
+use Rattle.std.proofs.lemmas.List.{get_or-map, get_or_past, length-map}
+use Rattle.std.proofs.lemmas.List.Elements.{All-append, All-map, All-nil}
+use Rattle.std.proofs.lemmas.List.FromFn.{get_or-map-range_with_len, length-range_with_len}
+use Rattle.std.proofs.lemmas.Option.{slice_get_past}
+use Rattle.cn_base.specs.Cidr.{Cidr, same_prefix}
+use Rattle.cn_base.specs.declared.ids.DeviceId.{DeviceId}
+use Rattle.cn_base.specs.declared.ids.Origin.{Origin}
+use Rattle.cn_base.specs.declared.route.Choice.{Choice}
+use Rattle.cn_rib.specs.PrefixSet as prefixes
+use Rattle.cn_rib.proofs.Keyed.{contains-empty, contains-insert_all, get_empty}
+use Rattle.cn_rib.proofs.Prefixes.{same_flip}
+use Rattle.cn_net.specs.Candidates.{best_of, better_of, own_choice, usable}
+use Rattle.cn_net.specs.Islands.{holds_device}
+use Rattle.cn_net.specs.Network.{Network, device_ids, device_of, own_of, own_origin}
+use Rattle.cn_net.specs.Opening.{Opening}
+use Rattle.cn_net.specs.declared.device.Device.{Device}
+use Rattle.cn_net.specs.declared.device.Own.{Own}
+use Rattle.cn_core.specs.declared.session.Rib.{Rib}
+use Rattle.cn_core.specs.declared.session.Session.{Session}
+use Rattle.cn_core.specs.Laws.{CleanIsDecided, IsKept, held_in}
+use Rattle.cn_core.specs.Machine.{came_at, first_rib, first_ribs, first_sessions, own_prefixes, receivers, route_with, start}
+use Rattle.cn_core.specs.State.{apply_all, empty_rib, empty_session, is_session, rib, session}
+use Rattle.cn_core.proofs.Access.{found_has}
+use Rattle.cn_core.proofs.Ends.{first_ends}
+
+-- ---- the sessions are empty
+
+rows_empty : (P : Session → Type 0) → ((a b : DeviceId) → P (empty_session a b)) → (o : Opening) (ds : List DeviceId) → All P (flat_map (λ a. map (empty_session a) (receivers o a)) ds)
+rows_empty P p o [] = All-nil P
+rows_empty P p o (a ∷ ds) = All-append P (map (empty_session a) (receivers o a)) (flat_map (λ a. map (empty_session a) (receivers o a)) ds) (All-map P (empty_session a) (receivers o a) (λ k d lt. p a (get_or (receivers o a) k d))) (rows_empty P p o ds)
+
+-- a fact of every empty session
+all_empty : (P : Session → Type 0) → ((a b : DeviceId) → P (empty_session a b)) → (o : Opening) → All P (first_sessions o)
+unfolding first_sessions
+all_empty P p o = rows_empty P p o (device_ids o.net)
+
+nothing_came : (o : Opening) (d : DeviceId) (q : Cidr) → came_at (start o) d q ≡ (λ a. None)
+unfolding came_at session start
+nothing_came o d q = λ i a. at_each a i
+  where
+    at_each : (a : DeviceId) → option_map (route_with q) (fin.get (unwrap_or (find (is_session a d) (first_sessions o)) (empty_session a d)).came q) ≡ None
+    at_each a = elim (find (is_session a d) (first_sessions o)) as (λ x. find (is_session a d) (first_sessions o) ≡ x → option_map (route_with q) (fin.get (unwrap_or x (empty_session a d)).came q) ≡ None) [
+      | None ↦ λ e. ap (option_map (route_with q)) (get_empty q)
+      | Some x ↦ λ e. ap (option_map (route_with q)) (found_has (λ (y : Session). fin.get y.came q ≡ None) (is_session a d) (first_sessions o) x (all_empty (λ (y : Session). fin.get y.came q ≡ None) (λ a b. get_empty q) o) e).0
+    ] refl
+
+-- ---- with nothing that came in, the own route is the best
+
+pub better_of_none : (net : Network) (x : Option Choice) → better_of net x None ≡ x
+better_of_none net None = refl
+better_of_none net (Some x) = refl
+
+pub none_usable : (net : Network) (b a : DeviceId) → usable net b a None ≡ None
+unfolding usable
+none_usable net b a = refl
+
+fold_none : (net : Network) (b : DeviceId) (ds : List DeviceId) (x : Option Choice) → fold (λ best a. better_of net best (usable net b a None)) x ds ≡ x
+fold_none net b [] x = refl
+fold_none net b (a ∷ ds) x = ap (λ z. fold (λ best c. better_of net best (usable net b c None)) z ds) (ap (better_of net x) (none_usable net b a) ∙ better_of_none net x) ∙ fold_none net b ds x
+
+only_own : (net : Network) (b : DeviceId) (p : Cidr) → best_of net (λ a. None) b p ≡ own_choice net b p
+unfolding best_of
+only_own net b p = fold_none net b (device_ids net) (own_choice net b p)
+
+no_own : (net : Network) (b : DeviceId) (p : Cidr) → own_origin net b p ≡ None → own_choice net b p ≡ None
+unfolding own_choice
+no_own net b p e = ap (option_map (λ (o : Origin). record { from = None; path = []; origin = o })) e
+
+-- ---- what the devices hold
+
+number_at : (net : Network) (d : DeviceId) (x : DeviceId) → d.0 < length net.devices → get_or (device_ids net) d.0 x ≡ d
+unfolding device_ids
+number_at net d x h = get_or-map-range_with_len (λ i. record { 0 = i }) 0 (length net.devices) d.0 d.0 x h (omega arith)
+
+pub count_ids : (net : Network) → length (device_ids net) ≡ length net.devices
+unfolding device_ids
+count_ids net = rw (length-map, length-range_with_len) refl
+
+pub count_ribs : (o : Opening) → length (first_ribs o) ≡ length o.net.devices
+unfolding first_ribs
+count_ribs o = length-map (device_ids o.net) (first_rib o) ∙ count_ids o.net
+
+rib_at : (o : Opening) (d : DeviceId) → d.0 < length o.net.devices → rib (start o) d ≡ first_rib o d
+unfolding rib start first_ribs
+rib_at o d h =
+    let within : d.0 < length (device_ids o.net) = rw (count_ids o.net) h in
+    get_or-map (first_rib o) (device_ids o.net) d.0 d empty_rib within ∙ ap (first_rib o) (number_at o.net d d h)
+
+rib_beyond : (o : Opening) (d : DeviceId) → length o.net.devices ≤ d.0 → rib (start o) d ≡ empty_rib
+unfolding rib start
+rib_beyond o d h = get_or_past (first_ribs o) d.0 empty_rib (rw (count_ribs o) h)
+
+own_clean : (os : List Own) (q : Cidr) → list_any (same_prefix q) (map (λ o. o.prefix) os) ≡ false → find (λ o. same_prefix o.prefix q) os ≡ None
+own_clean [] q e = refl
+own_clean (o ∷ os) q e =
+    elim (same_prefix q o.prefix) as (λ t. same_prefix q o.prefix ≡ t → (t || list_any (same_prefix q) (map (λ o. o.prefix) os)) ≡ false → find (λ o. same_prefix o.prefix q) (o ∷ os) ≡ None) [
+      | true ↦ λ t e. cc
+      | false ↦ λ t e. ap (λ b. cond b (Some o) (find (λ o. same_prefix o.prefix q) os)) (same_flip o.prefix q ∙ t) ∙ own_clean os q e
+    ] refl e
+
+device_clean : (x : Option Device) (q : Cidr) → list_any (same_prefix q) (unwrap_or (option_map (λ x. map (λ o. o.prefix) x.body.own) x) []) ≡ false → option_and_then (λ x. own_of x.body q) x ≡ None
+device_clean None q e = refl
+device_clean (Some x) q e = ap (option_map (λ (o : Own). o.origin)) (own_clean x.body.own q e)
+
+or_false : (b : Bool) → (b || false) ≡ b
+or_false true = refl
+or_false false = refl
+
+own_dirty : (net : Network) (d : DeviceId) (q : Cidr) → prefixes.contains (prefixes.insert_all prefixes.empty (own_prefixes net d)) q ≡ list_any (same_prefix q) (own_prefixes net d)
+own_dirty net d q =
+    contains-insert_all prefixes.empty (own_prefixes net d) q ∙ ap (λ b. list_any (same_prefix q) (own_prefixes net d) || b) (contains-empty q) ∙ or_false (list_any (same_prefix q) (own_prefixes net d))
+
+clean_has_no_own : (o : Opening) (d : DeviceId) (q : Cidr) → holds_device o.emulated d ≡ true → prefixes.contains (rib (start o) d).dirty q ≡ false → own_origin o.net d q ≡ None
+clean_has_no_own o d q e c =
+    elim (cases_lt d.0 (length o.net.devices)) [
+      | inl in' ↦
+          let first : rib (start o) d ≡ record { best = fin.empty; dirty = prefixes.insert_all prefixes.empty (own_prefixes o.net d) } =
+          rib_at o d in' ∙ ap (λ b. cond b (record { best = fin.empty; dirty = prefixes.insert_all prefixes.empty (own_prefixes o.net d) }) empty_rib) e in
+          device_clean (device_of o.net d) q (sym (own_dirty o.net d q) ∙ ap (λ (x : Rib). prefixes.contains x.dirty q) (sym first) ∙ c)
+      | inr out ↦ ap (option_and_then (λ (x : Device). own_of x.body q)) (slice_get_past o.net.devices d.0 out)
+    ]
+
+nothing_held : (o : Opening) (d : DeviceId) (q : Cidr) → held_in (start o) d q ≡ None
+nothing_held o d q =
+    elim (cases_lt d.0 (length o.net.devices)) [
+      | inl in' ↦ ap (λ (x : Rib). fin.get x.best q) (rib_at o d in') ∙ elim (holds_device o.emulated d) as (λ b. fin.get (cond {A = Rib} b (record { best = fin.empty; dirty = prefixes.insert_all prefixes.empty (own_prefixes o.net d) }) empty_rib).best q ≡ None) [ true ↦ get_empty q | false ↦ get_empty q ]
+      | inr out ↦ ap (λ (x : Rib). fin.get x.best q) (rib_beyond o d out) ∙ get_empty q
+    ]
+
+net_at_start : (o : Opening) → (start o).net ≡ o.net
+unfolding start
+net_at_start o = refl
+
+decided_at_start : (o : Opening) → CleanIsDecided o (start o)
+decided_at_start o d q e c =
+    nothing_held o d q ∙ sym (ap (λ n. best_of n (came_at (start o) d q) d q) (net_at_start o) ∙ ap (λ f. best_of o.net f d q) (nothing_came o d q) ∙ only_own o.net d q ∙ no_own o.net d q (clean_has_no_own o d q e c))
+
+pub kept_start : (o : Opening) → IsKept o (start o)
+unfolding start
+kept_start o = record {
+  net = refl;
+  ends = first_ends o;
+  ribs = count_ribs o;
+  transit = all_empty (λ x. apply_all x.came x.mail ≡ x.sent) (λ a b. refl) o;
+  few = all_empty (λ x. length x.mail ≤ 64) (λ a b. omega arith) o;
+  decided = decided_at_start o;
+}

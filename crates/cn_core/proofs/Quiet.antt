@@ -1,0 +1,101 @@
+-- A quiet state is a stable state of the network.
+use Rattle.std.proofs.Common.{◌≡◌, Bool, true, false, [], Option, Some, None, refl, sym, ap, ◌∙◌, subst, true≢false}
+use Rattle.std.specs.Prelude.{All, is_some, option_map, unwrap_or}
+use Rattle.std.specs.List.{find, list_any}
+use Rattle.std.specs.FinMap as fin
+use Rattle.cn_base.specs.Cidr.{Cidr}
+use Rattle.cn_base.specs.declared.ids.DeviceId.{DeviceId}
+use Rattle.cn_base.specs.declared.route.Choice.{Choice}
+use Rattle.cn_base.specs.declared.route.Route.{Route}
+use Rattle.cn_rib.specs.PrefixSet as prefixes
+use Rattle.cn_rib.proofs.Keyed.{contains-empty, get_empty}
+use Rattle.cn_net.specs.Candidates.{IsBest, best_of}
+use Rattle.cn_net.specs.Islands.{holds_device}
+use Rattle.cn_net.specs.Network.{Network, is_linked, link_between}
+use Rattle.cn_net.specs.OneState.{Agree}
+use Rattle.cn_net.specs.Opening.{Opening}
+use Rattle.cn_net.specs.Stable.{Assignment, IsStable, offer_of, offers_to, route_of}
+use Rattle.cn_net.specs.Valid.{IsValid}
+use Rattle.cn_net.proofs.Apart.{distinct_ids}
+use Rattle.cn_net.proofs.Candidates.{best_of_is_best}
+use Rattle.cn_net.proofs.Offering.{offer-gives, offer_of-gives}
+use Rattle.cn_net.proofs.Peers.{linked_devices}
+use Rattle.cn_net.proofs.States.{has_one_state}
+use Rattle.cn_core.specs.declared.session.Session.{Session}
+use Rattle.cn_core.specs.Laws.{AllEmulated, IsKept, QuietLaw, held_in}
+use Rattle.cn_core.specs.Machine.{came_at, route_with, state}
+use Rattle.cn_core.specs.Order.{IsQuiet}
+use Rattle.cn_core.specs.State.{CoreState, apply_all, attributes_of, empty_session, is_session, offered, owed_by, rib, session, wanted}
+use Rattle.cn_core.proofs.Access.{ends_are, found_has}
+use Rattle.cn_core.proofs.Ends.{found_by_ends, joins_ends, linked_stands}
+use Rattle.cn_core.proofs.Kept.{run_holds}
+use Rattle.cn_core.proofs.Owing.{owes_nothing}
+
+-- ---- what is offered keeps its prefix
+
+round_trip : (p : Cidr) (o : Option Route) → ((r : Route) → o ≡ Some r → r.prefix ≡ p) → option_map (route_with p) (option_map attributes_of o) ≡ o
+round_trip p None h = refl
+round_trip p (Some r) h = λ i. Some (record { prefix = sym (h r refl) i; path = r.path; origin = r.origin })
+
+offer_keeps : (net : Network) (a b : DeviceId) (p : Cidr) (held : Option Choice) (r : Route) → offer_of net a b p held ≡ Some r → r.prefix ≡ p
+offer_keeps net a b p held r e =
+    let o = offer_of-gives net a b p held r e in
+    (offer-gives net a b (route_of p o.source) r o.offered).prefix
+
+offered_back : (net : Network) (a b : DeviceId) (p : Cidr) (held : Option Choice) → option_map (route_with p) (offered net a b p held) ≡ offer_of net a b p held
+unfolding offered
+offered_back net a b p held = round_trip p (offer_of net a b p held) (offer_keeps net a b p held)
+
+-- ---- nothing is offered where there is no session
+
+up_is_linked : (o : Option Bool) → unwrap_or o false ≡ true → is_some o ≡ true
+up_is_linked None e = absurd (true≢false (sym e))
+up_is_linked (Some b) e = refl
+
+offer_needs_link : (net : Network) (a b : DeviceId) (p : Cidr) (held : Option Choice) (r : Route) → offer_of net a b p held ≡ Some r → is_linked net a b ≡ true
+offer_needs_link net a b p held r e =
+    let o = offer_of-gives net a b p held r e in
+    up_is_linked (link_between net a b) (offer-gives net a b (route_of p o.source) r o.offered).up
+
+no_session_no_offer : (o : Opening) (s : CoreState) → IsKept o s → IsValid o.net → (a d : DeviceId) (p : Cidr) (held : Option Choice) → holds_device o.emulated d ≡ true → find (is_session a d) s.sessions ≡ None → offer_of o.net a d p held ≡ None
+no_session_no_offer o s k valid a d p held m none = by_offer (offer_of o.net a d p held) refl
+  where
+    by_offer : (x : Option Route) → offer_of o.net a d p held ≡ x → x ≡ None
+    by_offer None e = refl
+    by_offer (Some r) e =
+        let linked = offer_needs_link o.net a d p held r e in
+        let ends = linked_devices o.net a d valid linked in
+        absurd (true≢false (sym (linked_stands o a d ends.0 ends.1 linked m) ∙ ap (λ es. list_any (joins_ends a d) es) (sym k.ends) ∙ sym (found_by_ends a d s.sessions) ∙ ap is_some none))
+
+-- where nothing is under way and nothing is owed, what came in is what is offered
+came_is_offered : (o : Opening) (s : CoreState) → IsKept o s → IsValid o.net → All (λ x. x.mail ≡ []) s.sessions → All (λ x. owed_by s x ≡ None) s.sessions → (a d : DeviceId) (p : Cidr) → holds_device o.emulated d ≡ true → came_at s d p a ≡ offers_to o.net (held_in s) d p a
+unfolding came_at session
+came_is_offered o s k valid no_mail none_owed a d p m =
+    elim (find (is_session a d) s.sessions) as (λ x. find (is_session a d) s.sessions ≡ x → option_map (route_with p) (fin.get (unwrap_or x (empty_session a d)).came p) ≡ offer_of o.net a d p (held_in s a p)) [
+      | None ↦ λ e. ap (option_map (route_with p)) (get_empty p) ∙ sym (no_session_no_offer o s k valid a d p (held_in s a p) m e)
+      | Some x ↦ λ e.
+          let transit = found_has (λ (y : Session). apply_all y.came y.mail ≡ y.sent) (is_session a d) s.sessions x k.transit e in
+          let empty = found_has (λ (y : Session). y.mail ≡ []) (is_session a d) s.sessions x no_mail e in
+          let nothing = found_has (λ (y : Session). owed_by s y ≡ None) (is_session a d) s.sessions x none_owed e in
+          let ends = ends_are a d x transit.1 in
+          let arrived : x.came ≡ x.sent = ap (apply_all x.came) (sym empty.0) ∙ transit.0 in
+          let sent : fin.get x.sent p ≡ offered o.net a d p (held_in s a p) =
+          owes_nothing s.net x.from x.to x.sent (rib s x.from).best nothing.0 p ∙ (λ i. wanted (k.net i) (ends.0 i) (ends.1 i) (rib s (ends.0 i)).best p) in
+          ap (λ n. option_map (route_with p) (fin.get n p)) arrived ∙ ap (option_map (route_with p)) sent ∙ offered_back o.net a d p (held_in s a p)
+    ] refl
+
+pub quiet_stable : (o : Opening) (s : CoreState) → IsKept o s → IsValid o.net → AllEmulated o → IsQuiet s → IsStable o.net (held_in s)
+quiet_stable o s k valid all quiet d p h =
+    let m = all d h in
+    let clean : prefixes.contains (rib s d).dirty p ≡ false = ap (λ x. prefixes.contains x p) (quiet.clean d) ∙ contains-empty p in
+    let came : came_at s d p ≡ offers_to o.net (held_in s) d p = λ i a. came_is_offered o s k valid quiet.mail quiet.owed a d p m i in
+    let held : held_in s d p ≡ best_of o.net (offers_to o.net (held_in s) d p) d p = k.decided d p m clean ∙ (λ i. best_of (k.net i) (came i) d p) in
+    subst (IsBest o.net (offers_to o.net (held_in s) d p) d p) (sym held) (best_of_is_best o.net (offers_to o.net (held_in s) d p) d p)
+
+pub stable_is_one : (net : Network) → IsValid net → (x y : Assignment) → IsStable net x → IsStable net y → Agree net x y
+stable_is_one net valid x y sx sy b p h =
+    let one = has_one_state net (distinct_ids net valid) in
+    sym (one.one x sx b p h) ∙ one.one y sy b p h
+
+pub quiet_holds : QuietLaw
+quiet_holds o h valid all run quiet = quiet_stable o (state o h) (run_holds o h run) valid all quiet

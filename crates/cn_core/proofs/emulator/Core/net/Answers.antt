@@ -1,0 +1,11 @@
+use Rattle.std.proofs.Common.{subst}
+use Rattle.cn_core.specs.Laws.{IsKept}
+use Rattle.cn_core.specs.Log.{Log}
+use Rattle.cn_core.specs.Machine.{state}
+use Rattle.cn_core.proofs.Logged.{kept_of}
+use Rattle.cn_core.proofs.emulator.Core.net.Goals as goal
+
+pub returns-clause-kept : goal.returns-clause-kept
+returns-clause-kept c =
+    subst (λ (l : Log). IsKept l.opening (state l.opening l.history)) c.self.view_is
+    (subst (IsKept c.self.inside.opening.value) c.self.invariant.0.tables (kept_of c.self.inside.opening.value c.self.inside.history.items c.self.inside.engine c.self.invariant.0))

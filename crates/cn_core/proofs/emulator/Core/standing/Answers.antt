@@ -1,0 +1,12 @@
+use Rattle.std.proofs.Common.{ap, ◌∙◌}
+use Rattle.cn_core.specs.Log.{Log}
+use Rattle.cn_core.specs.Machine.{state}
+use Rattle.cn_core.specs.Order.{standing}
+use Rattle.cn_core.proofs.Logged.{whole_at}
+use Rattle.cn_core.proofs.emulator.Core.standing.Goals as goal
+
+pub standing-requires : goal.standing-requires
+standing-requires c = record { whole = whole_at c.self.inside.opening.value c.self.inside.history.items c.self.inside.engine c.self.invariant.0 }
+
+pub returns : goal.returns
+returns c = c.standing.ensures ∙ ap standing c.self.invariant.0.tables ∙ ap (λ (l : Log). standing (state l.opening l.history)) c.self.view_is

@@ -1,0 +1,13 @@
+pub mod State
+pub mod Machine
+pub mod Parts
+pub mod Order
+pub mod Laws
+pub mod Log
+pub mod LogCode
+pub mod Tables
+pub mod Pulled
+pub mod Whole
+pub mod Learnt
+pub mod Rows
+pub mod Codes

@@ -1,0 +1,37 @@
+-- The core as contracts see it: an opening and a history. Its state is computed from them.
+use Rattle.std.specs.Prelude.{◌≡◌, ◌++◌, ◌∷◌, [], List, IsTrue}
+use Rattle.cn_net.specs.Opening.{IsOpening, Opening}
+use Rattle.cn_core.specs.declared.emulator.StepAnswer.{StepAnswer}
+use Rattle.cn_core.specs.declared.emulator.StepAnswer.TheVariants.{NotEnabled, Memory}
+use Rattle.cn_core.specs.declared.event.Event.{Event}
+use Rattle.cn_core.specs.declared.event.Step.{Step}
+use Rattle.cn_core.specs.Laws.{AllEmulated}
+use Rattle.cn_core.specs.Machine.{IsRun, can, state}
+use Rattle.cn_core.specs.State.{CoreState}
+
+pub record Log : Type 0 where
+  pub opening : Opening
+  pub history : List Step
+
+-- the state now
+abbrev pub now : Log → CoreState
+now l = state l.opening l.history
+
+-- with one step more
+abbrev pub then : Log → Step → Log
+then l e = record { opening = l.opening; history = l.history ++ e ∷ [] }
+
+abbrev pub CanStep : Log → Event → Type 0
+CanStep l e = IsTrue (can (now l) e)
+
+-- an event is refused exactly where it isn't enabled; of want of memory nothing is said
+abbrev pub IsRefusal : Log → Event → StepAnswer → Type 0
+IsRefusal l e NotEnabled = CanStep l e → ⊥
+IsRefusal l e Memory = Unit {0}
+
+-- the tables are the state after a run from an opening without outside devices
+pub record IsState (o : Opening) (h : List Step) (t : CoreState) : Type 0 where
+  pub opening : IsOpening o
+  pub emulated : AllEmulated o
+  pub run : IsRun o h
+  pub tables : t ≡ state o h

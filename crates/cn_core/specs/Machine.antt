@@ -1,0 +1,136 @@
+-- The events of the core, each with the condition under which it is enabled and its one result.
+use Rattle.std.specs.Prelude.{Bool, ◌&&◌, List, [], ◌∷◌, ◌++◌, length, Option, Some, None, is_some, option_map, slice_set, map, if◌then◌else◌, nat_lt, IsTrue, unwrap_or}
+use Rattle.std.specs.List.{filter, find, flat_map, fold}
+use Rattle.std.specs.FinMap.{FinMap}
+use Rattle.std.specs.FinMap as fin
+use Rattle.cn_base.specs.Cidr.{Cidr}
+use Rattle.cn_base.specs.Table.{prefix_cmp}
+use Rattle.cn_base.specs.declared.ids.DeviceId.{DeviceId}
+use Rattle.cn_base.specs.declared.route.Choice.{Choice}
+use Rattle.cn_base.specs.declared.route.Route.{Route}
+use Rattle.cn_rib.specs.PrefixSet as set
+use Rattle.cn_rib.specs.declared.attributes.Attributes.{Attributes}
+use Rattle.cn_net.specs.Candidates.{best_of}
+use Rattle.cn_net.specs.Islands.{holds_device}
+use Rattle.cn_net.specs.Network.{Network, device_ids, device_of, peers_of}
+use Rattle.cn_net.specs.Opening.{Opening}
+use Rattle.cn_core.specs.declared.event.Event.{Event}
+use Rattle.cn_core.specs.declared.event.Event.TheVariants.{Receive, Decide, Send}
+use Rattle.cn_core.specs.declared.event.Step.{Step}
+use Rattle.cn_core.specs.declared.event.Step.TheVariants.{Work, Mark}
+use Rattle.cn_core.specs.declared.message.Message.{Message}
+use Rattle.cn_core.specs.declared.session.Rib.{Rib}
+use Rattle.cn_core.specs.declared.session.Session.{Session}
+use Rattle.cn_core.specs.State.{CoreState, is_session, empty_session, session, empty_rib, rib, prefix_of, apply, owed_by}
+
+-- ---- a change in one place, all else as it is
+
+-- f at the first item that passes the test
+abbrev pub at_first : {A : Type 0} → (A → Bool) → (A → A) → List A → List A
+at_first test f [] = []
+at_first test f (x ∷ xs) = if test x then f x ∷ xs else x ∷ at_first test f xs
+
+unfoldable pub with_session : CoreState → DeviceId → DeviceId → (Session → Session) → CoreState
+with_session s a b f = record { net = s.net; sessions = at_first (is_session a b) f s.sessions; ribs = s.ribs }
+
+unfoldable pub with_rib : CoreState → DeviceId → Rib → CoreState
+with_rib s d x = record { net = s.net; sessions = s.sessions; ribs = slice_set s.ribs d.0 x }
+
+-- ---- receive: the first message leaves the mailbox and is applied to what came in, and its prefix becomes dirty
+
+abbrev pub taken_in : Message → List Message → Session → Session
+taken_in m rest x = record { from = x.from; to = x.to; sent = x.sent; mail = rest; came = apply x.came m }
+
+abbrev pub soiled : Rib → Cidr → Rib
+soiled x p = record { best = x.best; dirty = set.insert x.dirty p }
+
+abbrev pub receive : CoreState → DeviceId → DeviceId → List Message → CoreState
+receive s a b [] = s
+receive s a b (m ∷ rest) = with_rib (with_session s a b (taken_in m rest)) b (soiled (rib s b) (prefix_of m))
+
+-- ---- decide: the device holds the best of its candidates for the prefix, which is clean (RFC 4271, 9.1.2)
+
+abbrev pub route_with : Cidr → Attributes → Route
+route_with p x = record { prefix = p; path = x.path; origin = x.origin }
+
+-- the route to p that came in at d from each device
+unfoldable pub came_at : CoreState → DeviceId → Cidr → DeviceId → Option Route
+came_at s d p a = option_map (route_with p) (fin.get (session s a d).came p)
+
+abbrev pub put_choice : FinMap prefix_cmp Choice → Cidr → Option Choice → FinMap prefix_cmp Choice
+put_choice best p None = fin.remove best p
+put_choice best p (Some c) = fin.insert best p c
+
+abbrev pub decided : Rib → Cidr → Option Choice → Rib
+decided x p o = record { best = put_choice x.best p o; dirty = set.remove x.dirty p }
+
+abbrev pub decide : CoreState → DeviceId → Cidr → CoreState
+decide s d p = with_rib s d (decided (rib s d) p (best_of s.net (came_at s d p) d p))
+
+-- ---- send: the message that is owed stands last in the mailbox, and counts as sent (RFC 4271, 9.2)
+
+abbrev pub put_out : Message → Session → Session
+put_out m x = record { from = x.from; to = x.to; sent = apply x.sent m; mail = x.mail ++ m ∷ []; came = x.came }
+
+abbrev pub send : CoreState → DeviceId → DeviceId → Option Message → CoreState
+send s a b None = s
+send s a b (Some m) = with_session s a b (put_out m)
+
+-- ---- steps
+
+-- whether an event may happen
+abbrev pub can : CoreState → Event → Bool
+can s (Receive a b) = nat_lt 0 (length (session s a b).mail)
+can s (Decide d p) = set.contains (rib s d).dirty p
+can s (Send a b) = is_some (find (is_session a b) s.sessions) && (is_some (owed_by s (session s a b)) && nat_lt (length (session s a b).mail) 64)
+
+abbrev pub after_event : CoreState → Event → CoreState
+after_event s (Receive a b) = receive s a b (session s a b).mail
+after_event s (Decide d p) = decide s d p
+after_event s (Send a b) = send s a b (owed_by s (session s a b))
+
+-- a mark may always be made, and changes nothing but the history
+abbrev pub IsEnabled : CoreState → Step → Type 0
+IsEnabled s (Work e) = IsTrue (can s e)
+IsEnabled s (Mark k) = Unit {0}
+
+abbrev pub step : CoreState → Step → CoreState
+step s (Work e) = after_event s e
+step s (Mark k) = s
+
+-- ---- the start: all is empty, but that the own prefixes of each emulated device are dirty
+
+-- the emulated devices to which a is linked, in ascending order
+abbrev pub receivers : Opening → DeviceId → List DeviceId
+receivers o a = filter (holds_device o.emulated) (peers_of o.net a)
+
+-- a session for each direction of a link whose receiver is emulated, by (from, to)
+unfoldable pub first_sessions : Opening → List Session
+first_sessions o = flat_map (λ a. map (empty_session a) (receivers o a)) (device_ids o.net)
+
+abbrev pub own_prefixes : Network → DeviceId → List Cidr
+own_prefixes net d = unwrap_or (option_map (λ x. map (λ o. o.prefix) x.body.own) (device_of net d)) []
+
+abbrev pub first_rib : Opening → DeviceId → Rib
+first_rib o d = if holds_device o.emulated d then record { best = fin.empty; dirty = set.insert_all set.empty (own_prefixes o.net d) } else empty_rib
+
+-- what each device holds, by its number
+unfoldable pub first_ribs : Opening → List Rib
+first_ribs o = map (first_rib o) (device_ids o.net)
+
+unfoldable pub start : Opening → CoreState
+start o = record { net = o.net; sessions = first_sessions o; ribs = first_ribs o }
+
+-- ---- histories
+
+-- the state after a history
+unfoldable pub state : Opening → List Step → CoreState
+state o h = fold step (start o) h
+
+abbrev pub IsRunFrom : CoreState → List Step → Type 0
+IsRunFrom s [] = Unit {0}
+IsRunFrom s (e ∷ es) = IsEnabled s e × IsRunFrom (step s e) es
+
+-- each step is enabled where it stands
+unfoldable pub IsRun : Opening → List Step → Type 0
+IsRun o h = IsRunFrom (start o) h

@@ -1,0 +1,151 @@
+//! The core: its state is that of its own history.
+
+ghost use Rattle.std.specs.Prelude.{◌≡◌, [], IfErr, IfOk, OnErr, OnOk};
+ghost use Rattle.cn_core.specs.Laws.{AllEmulated, IsKept};
+ghost use Rattle.cn_core.specs.Log.{CanStep, IsRefusal, Log as LogValue, now, then};
+ghost use Rattle.cn_core.specs.Machine.{IsRun};
+ghost use Rattle.cn_core.specs.Order.{first_event, standing};
+ghost use Rattle.cn_core.specs.Pulled.{IsPulled};
+
+use crate::engine::Engine;
+use crate::event::{Event, Step};
+use crate::pull::Pull;
+use crate::start::open;
+use cn_base::Standing;
+use cn_net::{Certified, DeviceSet, Net};
+use std::alloc::{AllocError, Global};
+use std::marker::Model;
+use std::snapshot::Snapshot;
+
+/// Why an event did not happen.
+#[derive(Clone, Copy, Debug, PartialEq, Eq)]
+pub enum StepAnswer {
+    /// The event isn't enabled in the state now.
+    NotEnabled,
+    /// Memory is short.
+    Memory,
+}
+
+/// A network and its emulated devices, the steps so far, and the state to which they led. Contracts see
+/// the opening and the history; the state is what they say that it is.
+#[derive(Drop)]
+pub struct Core {
+    opening: Snapshot<Certified>,
+    emulated: DeviceSet,
+    engine: Engine,
+    history: Vec<Step>,
+}
+
+impl Model for Core {
+    ghost use Rattle.std.specs.Prelude.{◌≡◌};
+    ghost use Rattle.cn_core.specs.Log.{IsState, Log};
+    ghost use Rattle.cn_core.specs.LogCode.{log_code};
+
+    ghost Value = { Log };
+
+    ghost coded = { log_code };
+
+    ghost view = { λ c. record { opening = c.opening.value; history = c.history.items } };
+
+    ghost invariant = { λ c. IsState c.opening.value c.history.items c.engine × (c.emulated ≡ c.opening.value.emulated) };
+}
+
+impl Core {
+    /// The core of an opening in which every device is emulated, at the start. The opening is handed back
+    /// for want of memory alone.
+    pub fn start(alloc: Global, certified: Certified) -> Result<Core, Certified>
+        requires { AllEmulated certified }
+        ensures ok { IfOk result (λ core. core ≡ record { opening = certified; history = [] }) }
+        ensures err { IfErr result (λ back. back ≡ certified) }
+    {
+        certified.valid();
+        let opening = Snapshot::of(&certified);
+        match open(alloc, certified) {
+            Ok((engine, emulated)) => Ok(Core {
+                opening,
+                emulated,
+                engine,
+                history: Vec::new(alloc),
+            }),
+            Err(certified) => Err(certified),
+        }
+    }
+
+    /// One event (RFC 4271, 9). One that isn't enabled never happens, and `NotEnabled` comes for such a one
+    /// alone. After every error the core is as before.
+    pub fn step(&mut self, alloc: Global, event: Event) -> Result<(), StepAnswer>
+        ensures enabled { OnOk result (CanStep self.old event) }
+        ensures ok { OnOk result (self.new ≡ then self.old (Step.Work event)) }
+        ensures refused { IfErr result (IsRefusal self.old event) }
+        ensures err { OnErr result (self.new ≡ self.old) }
+    {
+        if !self.engine.can(&event) {
+            return Err(StepAnswer::NotEnabled);
+        }
+        if self.history.reserve(1).is_err() {
+            return Err(StepAnswer::Memory);
+        }
+        if self.engine.apply(alloc, &event).is_err() {
+            return Err(StepAnswer::Memory);
+        }
+        self.history.push_reserved(Step::Work(event));
+        Ok(())
+    }
+
+    /// The mark behind command `k`: nothing but the history changes. The error is want of memory, after
+    /// which the core is as before.
+    pub fn mark(&mut self, k: u32) -> Result<(), AllocError>
+        ensures ok { OnOk result (self.new ≡ then self.old (Step.Mark k)) }
+        ensures err { OnErr result (self.new ≡ self.old) }
+    {
+        // The borrow checker wants to see the type that a step may hold.
+        let _: Option<&Event> = None;
+        self.history.reserve(1)?;
+        self.history.push_reserved(Step::Mark { k });
+        Ok(())
+    }
+
+    /// The first event in the serial order. None comes exactly where the state is quiet. It takes no memory.
+    pub fn first(&self) -> Option<Event>
+        ensures event { result ≡ first_event (now self.now) }
+        ensures kept { IsKept self.now.opening (now self.now) }
+    {
+        self.engine.first()
+    }
+
+    /// What is pending first. It takes no memory.
+    pub fn standing(&self) -> Standing
+        ensures { result ≡ standing (now self.now) }
+    {
+        self.engine.standing()
+    }
+
+    /// The tables of the emulated devices exactly where the state is quiet, and they are then those of the
+    /// one stable state of the network; and else what is pending first. The error is want of memory.
+    pub fn pull(&self, alloc: Global) -> Result<Pull, AllocError>
+        ensures { IfOk result (λ pull. IsPulled self.now pull) }
+    {
+        match self.engine.standing() {
+            Standing::Quiet => Ok(Pull::Quiet {
+                tables: self.engine.tables(alloc, &self.emulated)?,
+            }),
+            standing => Ok(Pull::Again { standing }),
+        }
+    }
+
+    /// The steps so far. Each event was enabled where it happened.
+    pub fn history(&self) -> &[Step]
+        ensures same { result.now ≡ self.now.history }
+        ensures run { IsRun self.now.opening self.now.history }
+    {
+        &self.history
+    }
+
+    /// The network now.
+    pub fn net(&self) -> &Net
+        ensures net { result.now ≡ (now self.now).net }
+        ensures kept { IsKept self.now.opening (now self.now) }
+    {
+        &self.engine.net
+    }
+}

@@ -1,0 +1,203 @@
+//! The state behind a core: the network, its sessions, and what its devices hold.
+
+ghost use Rattle.std.specs.Prelude.{◌≡◌, ◌<◌, ◌&&◌, MatchOption, OnOk, OnErr, IsTrue, is_some, length, nat_lt, option_copied};
+ghost use Rattle.std.specs.List.{find};
+ghost use Rattle.std.specs.FinMap as fin;
+ghost use Rattle.cn_net.specs.Network.{IsDevice};
+ghost use Rattle.cn_rib.specs.PrefixSet as set;
+ghost use Rattle.cn_core.specs.Machine.{after_event, can, decide, receive, send};
+ghost use Rattle.cn_core.specs.State.{is_session, owed_by, rib, session};
+ghost use Rattle.cn_core.specs.Whole.{IsNowhere, IsPlaceOf, IsWhole};
+
+use crate::event::Event;
+use crate::owed::{message, owes};
+use crate::session::{Rib, Session, receive};
+use cn_base::{Choice, DeviceId, Prefix};
+use cn_net::Net;
+use cn_rib::{Attributes, PrefixMap};
+use std::alloc::{AllocError, Global};
+use std::marker::Model;
+
+/// The network, the sessions by `(from, to)`, and what each device holds, by its number.
+#[derive(Drop)]
+pub struct Engine {
+    pub net: Net,
+    pub sessions: Vec<Session>,
+    pub ribs: Vec<Rib>,
+}
+
+impl Model for Engine {
+    ghost use Rattle.cn_core.specs.State.{CoreState};
+    ghost use Rattle.cn_core.specs.Codes.{state_code};
+
+    ghost Value = { CoreState };
+
+    ghost coded = { state_code };
+
+    ghost view = { λ t. record { net = t.net; sessions = t.sessions.items; ribs = t.ribs.items } };
+}
+
+impl Engine {
+    // The place of a session, found by halving.
+    fn place(&self, from: DeviceId, to: DeviceId) -> Option<usize>
+        requires whole { IsWhole self.now }
+        ensures { MatchOption result (IsNowhere from to self.now.sessions) (λ i. IsPlaceOf from to self.now.sessions i) }
+    {
+        match self
+            .sessions
+            .binary_search_by_key(&(from, to), |x| (x.from, x.to))
+        {
+            Ok(place) => Some(place),
+            Err(_) => None,
+        }
+    }
+
+    fn session(&self, from: DeviceId, to: DeviceId) -> Option<&Session>
+        requires whole { IsWhole self.now }
+        ensures { option_copied result ≡ find (is_session from to) self.now.sessions }
+    {
+        match self.place(from, to) {
+            Some(at) => Some(&self.sessions[at]),
+            None => None,
+        }
+    }
+
+    /// What came in over a session for a prefix.
+    #[tactic(auto, unfolding(crate::specs::State::session))]
+    pub fn came(&self, from: DeviceId, to: DeviceId, prefix: &Prefix) -> Option<&Attributes>
+        requires whole { IsWhole self.now }
+        ensures { option_copied result ≡ fin.get (session self.now from to).came prefix.now }
+    {
+        match self.session(from, to) {
+            Some(session) => session.came.get(prefix),
+            None => None,
+        }
+    }
+
+    /// What a device holds.
+    #[tactic(auto, unfolding(crate::specs::State::rib), using(crate::proofs::Held::rib_read))]
+    pub fn rib(&self, device: DeviceId) -> &Rib
+        requires { device.0 < length self.now.ribs }
+        ensures { result.now ≡ rib self.now device }
+    {
+        &self.ribs[device.0 as usize]
+    }
+
+    // The best routes of a device.
+    #[tactic(auto, unfolding(crate::specs::State::rib), using(crate::proofs::Held::rib_read))]
+    fn best(&self, device: DeviceId) -> &PrefixMap<Choice>
+        requires { device.0 < length self.now.ribs }
+        ensures { result.now ≡ (rib self.now device).best }
+    {
+        &self.ribs[device.0 as usize].best
+    }
+
+    /// Whether a session owes a message.
+    pub fn owes(&self, session: &Session) -> bool
+        requires whole { IsWhole self.now }
+        requires from { IsDevice self.now.net session.now.from }
+        requires to { IsDevice self.now.net session.now.to }
+        ensures { result ≡ is_some (owed_by self.now session.now) }
+    {
+        owes(&self.net, session, self.best(session.from))
+    }
+
+    // ---- whether an event is enabled
+
+    #[tactic(auto, unfolding(crate::specs::State::session))]
+    fn has_mail(&self, from: DeviceId, to: DeviceId) -> bool
+        requires whole { IsWhole self.now }
+        ensures { result ≡ nat_lt 0 (length (session self.now from to).mail) }
+    {
+        match self.session(from, to) {
+            Some(session) => 0 < session.mail.len(),
+            None => false,
+        }
+    }
+
+    #[tactic(auto, unfolding(crate::specs::State::rib), using(crate::proofs::Held::rib_read))]
+    fn is_dirty(&self, device: DeviceId, prefix: &Prefix) -> bool
+        ensures { result ≡ set.contains (rib self.now device).dirty prefix.now }
+    {
+        match self.ribs.get(device.0 as usize) {
+            Some(rib) => rib.dirty.contains(prefix),
+            None => false,
+        }
+    }
+
+    fn can_send(&self, from: DeviceId, to: DeviceId) -> bool
+        requires whole { IsWhole self.now }
+        ensures { result ≡ can self.now (Event.Send from to) }
+    {
+        match self.session(from, to) {
+            Some(session) => self.owes(session) && session.mail.len() < 64,
+            None => false,
+        }
+    }
+
+    /// Whether an event is enabled.
+    pub fn can(&self, event: &Event) -> bool
+        requires whole { IsWhole self.now }
+        ensures { result ≡ can self.now event.now }
+    {
+        match event {
+            Event::Receive { from, to } => self.has_mail(*from, *to),
+            Event::Decide { device, prefix } => self.is_dirty(*device, prefix),
+            Event::Send { from, to } => self.can_send(*from, *to),
+        }
+    }
+
+    // ---- an event that is enabled; all memory is taken before anything changes
+
+    fn receive(&mut self, alloc: Global, from: DeviceId, to: DeviceId) -> Result<(), AllocError>
+        requires whole { IsWhole self.old }
+        requires mail { 0 < length (session self.old from to).mail }
+        ensures ok { OnOk result (self.new ≡ receive self.old from to (session self.old from to).mail) }
+        ensures err { OnErr result (self.new ≡ self.old) }
+    {
+        match self.place(from, to) {
+            Some(at) => receive(alloc, &mut self.sessions[at], &mut self.ribs[to.0 as usize]),
+            None => Ok(()),
+        }
+    }
+
+    fn decide(&mut self, alloc: Global, device: DeviceId, prefix: &Prefix) -> Result<(), AllocError>
+        requires whole { IsWhole self.old }
+        requires inside { device.0 < length self.old.ribs }
+        ensures ok { OnOk result (self.new ≡ decide self.old device prefix.now) }
+        ensures err { OnErr result (self.new ≡ self.old) }
+    {
+        let choice = self.decided(alloc, device, prefix)?;
+        self.ribs[device.0 as usize].decide(prefix, choice)
+    }
+
+    fn send(&mut self, alloc: Global, from: DeviceId, to: DeviceId) -> Result<(), AllocError>
+        requires whole { IsWhole self.old }
+        requires can { IsTrue (can self.old (Event.Send from to)) }
+        ensures ok { OnOk result (self.new ≡ send self.old from to (owed_by self.old (session self.old from to))) }
+        ensures err { OnErr result (self.new ≡ self.old) }
+    {
+        match self.place(from, to) {
+            Some(at) => {
+                let best = &self.ribs[from.0 as usize].best;
+                let message = message(alloc, &self.net, &self.sessions[at], best)?;
+                self.sessions[at].put_out(alloc, message)
+            }
+            None => Ok(()),
+        }
+    }
+
+    /// An event that is enabled happens. All memory is taken before anything changes.
+    pub fn apply(&mut self, alloc: Global, event: &Event) -> Result<(), AllocError>
+        requires whole { IsWhole self.old }
+        requires can { IsTrue (can self.old event.now) }
+        ensures ok { OnOk result (self.new ≡ after_event self.old event.now) }
+        ensures err { OnErr result (self.new ≡ self.old) }
+    {
+        match event {
+            Event::Receive { from, to } => self.receive(alloc, *from, *to),
+            Event::Decide { device, prefix } => self.decide(alloc, *device, prefix),
+            Event::Send { from, to } => self.send(alloc, *from, *to),
+        }
+    }
+}

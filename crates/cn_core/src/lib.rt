@@ -1,0 +1,31 @@
+//! The core of the emulator: devices that exchange routes over sessions, as one plain value.
+//!
+//! Contracts see a `Core` as its opening, a network with its emulated devices, and the history of its
+//! steps. `specs/State.antt` has the state that stands behind it, `specs/Machine.antt` each event's
+//! condition and its one result, `specs/Order.antt` what is pending and which event is first, and
+//! `specs/Laws.antt` what holds after every run; `laws` has these as contracts. A call changes the
+//! history and nothing that a contract names beside it. What a device offers, accepts and prefers is
+//! defined in `cn_net`; what is printed of a history or an answer is left to the crates above.
+#![tactic(auto)]
+
+mod answer;
+mod decision;
+mod emulator;
+mod engine;
+mod event;
+pub mod laws;
+mod message;
+mod owed;
+mod pending;
+mod pull;
+mod session;
+mod start;
+
+pub use answer::Answer;
+pub use emulator::{Core, StepAnswer};
+pub use event::{Event, Step};
+pub use message::Message;
+pub use pull::{DeviceTable, Pull, Tables};
+
+#[cfg(test)]
+mod tests;
