@@ -1,0 +1,36 @@
+-- The trace of a history. Every line ends with one line feed.
+use Rattle.std.specs.Prelude.{ℕ, codes, List, [], ◌∷◌, ◌++◌, flat_map}
+use Rattle.std.specs.Fmt.{decimal}
+use Rattle.cn_base.specs.declared.ids.DeviceId.{DeviceId}
+use Rattle.cn_net.specs.Network.{Network, name_of}
+use Rattle.cn_core.specs.declared.event.Event.{Event}
+use Rattle.cn_core.specs.declared.event.Event.TheVariants.{Receive, Decide, Send}
+use Rattle.cn_core.specs.declared.event.Step.{Step}
+use Rattle.cn_core.specs.declared.event.Step.TheVariants.{Work, Mark}
+use Rattle.cn_text.specs.Printed.{prefix_text}
+
+abbrev pub newline : List ℕ
+newline = 10 ∷ []
+
+-- the two devices of a session, the sender first
+abbrev pub paired : Network → DeviceId → DeviceId → List ℕ
+paired net from to = name_of net from ++ codes " " ++ name_of net to
+
+-- what happened: a message received, a decision made, or a message sent
+abbrev pub event_text : Network → Event → List ℕ
+event_text net (Receive from to) = codes "receive " ++ paired net from to
+event_text net (Decide device prefix) = codes "decide " ++ name_of net device ++ codes " " ++ prefix_text prefix
+event_text net (Send from to) = codes "send " ++ paired net from to
+
+-- an event, or the mark behind a command
+abbrev pub step_text : Network → Step → List ℕ
+step_text net (Work event) = event_text net event
+step_text net (Mark k) = codes "mark " ++ decimal k
+
+-- the line of a step
+abbrev pub step_line : Network → Step → List ℕ
+step_line net step = step_text net step ++ newline
+
+-- the line that names the format, and the lines of the steps
+abbrev pub trace_text : Network → List Step → List ℕ
+trace_text net history = codes "trace 1" ++ newline ++ flat_map (step_line net) history
