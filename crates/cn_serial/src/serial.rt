@@ -1,0 +1,84 @@
+//! The run of a script.
+
+ghost use Rattle.std.specs.Prelude.{◌≡◌, ◌++◌, ◌≤◌, IfOk, OnOk, map};
+ghost use Rattle.cn_core.specs.Laws.{AllEmulated};
+ghost use Rattle.cn_core.specs.Log.{now};
+ghost use Rattle.cn_core.specs.declared.event.Step.TheVariants.{Work};
+ghost use Rattle.cn_serial.specs.Ran.{IsRan};
+ghost use Rattle.cn_serial.specs.Serial.{IsAnswer, at_mark, first_events};
+
+use cn_base::Items;
+use cn_core::{Answer, Core, StepAnswer};
+use cn_net::Certified;
+use cn_readscript::{Command, Script};
+use std::alloc::{AllocError, Global};
+
+/// A core after the last command of a script, and the answers to the commands, in their order.
+#[derive(Drop)]
+pub struct Ran {
+    pub core: Core,
+    pub answers: Items<Answer>,
+}
+
+// The first event happens, again and again, until so many have happened or the state is quiet.
+fn work(alloc: Global, core: &mut Core, count: u32) -> Result<(), AllocError>
+    ensures opening { core.new.opening ≡ core.old.opening }
+    ensures history { OnOk result (core.new.history ≡ core.old.history ++ map Work (first_events (now core.old) count)) }
+{
+    for done in 0..count {
+        let _ = done;
+        match core.first() {
+            Some(event) => match core.step(alloc, event) {
+                Ok(()) => {}
+                Err(StepAnswer::Memory) => return Err(AllocError),
+                Err(StepAnswer::NotEnabled) => unreachable!(),
+            },
+            None => return Ok(()),
+        }
+    }
+    Ok(())
+}
+
+// One command, and the mark behind it.
+fn run_command(
+    alloc: Global,
+    core: &mut Core,
+    k: u32,
+    command: &Command,
+) -> Result<Answer, AllocError>
+    ensures log { OnOk result (core.new ≡ at_mark core.old k command.now) }
+    ensures answer { IfOk result (λ answer. IsAnswer core.new command.now answer) }
+{
+    match command {
+        Command::Work { count } => {
+            work(alloc, core, *count)?;
+            core.mark(k)?;
+            Ok(Answer::Done)
+        }
+        Command::Pull => {
+            core.mark(k)?;
+            Ok(Answer::Pulled(core.pull(alloc)?))
+        }
+    }
+}
+
+/// Runs a script in the serial order from an opening in which every device is emulated. The error is want
+/// of memory.
+pub fn run_serial(alloc: Global, certified: Certified, script: &Script) -> Result<Ran, AllocError>
+    requires { AllEmulated certified }
+    ensures { IfOk result (λ ran. IsRan certified script.now ran) }
+{
+    let Ok(mut core) = Core::start(alloc, certified) else {
+        return Err(AllocError);
+    };
+    let mut answers = Vec::with_capacity(alloc, script.items().len())?;
+    let mut k = 1;
+    for command in script.items() {
+        answers.push(run_command(alloc, &mut core, k, command)?)?;
+        k += 1;
+    }
+    Ok(Ran {
+        core,
+        answers: Items::make(answers),
+    })
+}
