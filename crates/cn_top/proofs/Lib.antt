@@ -1,5 +1,9 @@
 pub mod Boundaries
 pub mod Meanings
+pub mod Meant
 pub mod OneEmulation
+pub mod Openings
 pub mod Outcomes
+pub mod Plannings
+pub mod Puts
 pub mod Selections

@@ -20,7 +20,7 @@ use Rattle.cn_top.specs.Selection.{Selects}
 too_long : (bytes : List ℕ) → plan_limit < length bytes → StandsForNone bytes
 too_long bytes lt e stands = omega (arith, stands.0)
 
-some_text : (n : ℕ) → (bytes : List ℕ) × (length bytes ≡ n)
+pub some_text : (n : ℕ) → (bytes : List ℕ) × (length bytes ≡ n)
 some_text zero = ([], refl)
 some_text (suc n) = let r = some_text n in (0 ∷ r.0, ap suc r.1)
 

@@ -6,7 +6,7 @@ use Rattle.cn_readnet.specs.declared.plan.NetText.{NetText}
 use Rattle.cn_text.specs.declared.answer.TextAnswer.{TextAnswer}
 use Rattle.cn_top.specs.Emulation.{Emulation, IsEmulationOf, StandsFor}
 
-same_text : (read : Result NetText TextAnswer) (x y : NetText) → read ≡ Ok x → read ≡ Ok y → x ≡ y
+pub same_text : (read : Result NetText TextAnswer) (x y : NetText) → read ≡ Ok x → read ≡ Ok y → x ≡ y
 same_text read x y p q = cc
 
 pub same_emulation : (text : NetText) (x y : Emulation) → IsEmulationOf text x → IsEmulationOf text y → x ≡ y

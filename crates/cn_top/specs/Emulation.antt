@@ -6,7 +6,8 @@ use Rattle.cn_base.specs.declared.ids.DeviceId.{DeviceId}
 use Rattle.cn_net.specs.Certificate.{IsCertified}
 use Rattle.cn_net.specs.Drafted.{draft_of}
 use Rattle.cn_net.specs.Islands.{IsIslands}
-use Rattle.cn_net.specs.Network.{Network, IsDevice, device_of, name_of}
+use Rattle.cn_net.specs.Network.{Network, IsDevice, device_ids, device_of, name_of}
+use Rattle.cn_net.specs.Opening.{IsOpening, Opening}
 use Rattle.cn_net.specs.Valid.{IsValid}
 use Rattle.cn_net.specs.declared.device.Device.{Device}
 use Rattle.cn_cert.specs.Refusal.{IsFirstRefusal}
@@ -77,3 +78,9 @@ CertificateFails net outside = (label : DeviceId → Option DeviceId) × IsIslan
 -- the first that is wrong with the boundary
 abbrev pub IsRefusedBy : Network → (DeviceId → Bool) → Refusal → Type 0
 IsRefusedBy net outside refusal = (label : DeviceId → Option DeviceId) × IsIslands net outside label × IsFirstRefusal net outside label refusal
+
+-- an opening of the network in which every device is emulated
+pub record IsOpeningOf (net : Network) (o : Opening) : Type 0 where
+  pub network : o.net ≡ net
+  pub everyone : o.emulated ≡ device_ids net
+  pub opening : IsOpening o

@@ -5,5 +5,9 @@ pub mod Emulation
 pub mod Selection
 pub mod Texts
 pub mod Plan
+pub mod Planned
+pub mod Serial
+pub mod Meant
+pub mod Means
 pub mod Ending
 pub mod Outcome

@@ -5,7 +5,6 @@ use Rattle.cn_net.specs.Network.{Network}
 use Rattle.cn_cert.specs.declared.refusal.Refusal.{Refusal}
 use Rattle.cn_readnet.specs.declared.plan.NetText.{NetText}
 use Rattle.cn_top.specs.Emulation.{Emulation, is_outside, AllEmulated, SomeOutside, CertificateHolds, IsRefusedBy, IsEmulationOf, StandsFor, StandsForNone}
-use Rattle.cn_top.specs.Form.{Form, plan_form, later_form, usage_form}
 use Rattle.cn_top.specs.Texts.{usage_line, unbuilt_line, unread_line, refused_line, plan_text}
 use Rattle.cn_top.specs.declared.answer.Answer.{Answer}
 use Rattle.cn_top.specs.declared.status.Status.TheVariants as status
@@ -56,9 +55,3 @@ AnswersHeld tells held answer = (bytes : List ℕ) × (IsTrue tells → held ≡
 -- A fault of reading is meant only where the count of the name rose.
 abbrev pub IsUnread : List ℕ → (List ℕ → ℕ) → (List ℕ → ℕ) → Answer → Type 0
 IsUnread file before now answer = (before file < now file) × (answer ≡ unread_answer file)
-
--- what a call means to answer
-abbrev pub Means : Form → Bool → (List ℕ → Option (List ℕ)) → (List ℕ → ℕ) → (List ℕ → ℕ) → Answer → Type 0
-Means (plan_form file) tells held before now answer = IsUnread file before now answer ⊎ AnswersHeld tells (held file) answer
-Means (later_form word) tells held before now answer = answer ≡ unbuilt_answer word
-Means usage_form tells held before now answer = answer ≡ usage_answer

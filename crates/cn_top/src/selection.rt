@@ -16,7 +16,7 @@ pub fn emulated_of(
     net: &Net,
     names: &[Name],
 ) -> Result<Option<DeviceSet>, AllocError>
-    ensures { IfOk result (λ found. MatchOption found (¬ (All (IsBorne net.now) names.now)) (Selects net.now names.now)) }
+    ensures { IfOk result (λ found. MatchOption found (¬ (All (IsBorne net.now) names.now)) (λ set. Selects net.now names.now set × All (IsDevice net.now) set)) }
 {
     net.valid();
     let mut devices = Vec::new(alloc);

@@ -1,5 +1,5 @@
 use super::*;
-use cn_outside::{MemoryOut, MemoryShelf, Trip};
+use cn_outside::{MemoryOut, MemoryShelf, ReadAnswer, Shelf, Trip};
 use std::alloc::Global;
 use std::process::Abort;
 use std::test::Fail;
@@ -128,10 +128,11 @@ fn words_without_a_plan(rt: HostRuntime) -> Result<(), Fail> {
         (["plan", "q.toml", "q.toml"].as_slice(), usage, USAGE),
         (["live", "q.toml"].as_slice(), usage, USAGE),
         (["planet", "q.toml"].as_slice(), usage, USAGE),
+        (["serial", "q.toml", "s.toml"].as_slice(), usage, USAGE),
         (
-            ["serial"].as_slice(),
+            ["replay", "q.toml"].as_slice(),
             Status::Unbuilt,
-            "not built yet: serial\n",
+            "not built yet: replay\n",
         ),
         (
             ["make", "a"].as_slice(),
@@ -231,5 +232,115 @@ fn failing_calls(rt: HostRuntime) -> Result<(), Fail> {
     assert_eq!(rt; status, Status::ReadFault);
     assert_eq!(rt; out.taken(), b"cannot read q.toml\n".as_slice());
     assert_eq!(rt; status.number(), 3);
+    Ok(())
+}
+
+// A rack and a leaf, all emulated.
+const TWO: &str = "version = 1
+emulate = [\"t1\", \"l1\"]
+[[device]]
+name = \"t1\"
+layer = 1
+asn = 65101
+id = \"10.0.0.1\"
+own = [\"10.1.1.0/24\"]
+[[device]]
+name = \"l1\"
+layer = 2
+asn = 65201
+id = \"10.0.1.1\"
+[[link]]
+a = \"t1\"
+b = \"l1\"
+";
+
+const UNTIL_QUIET: &str = "version = 1
+command = [
+  { kind = \"work\", count = 100 },
+  { kind = \"pull\" },
+]
+";
+
+const TABLES: &str = "1 work done
+2 pull quiet
+table t1
+10.1.1.0/24 own path - origin igp
+table l1
+10.1.1.0/24 from t1 path 65101 origin igp
+";
+
+const TRACE: &str = "trace 1
+decide t1 10.1.1.0/24
+send t1 l1
+receive t1 l1
+decide l1 10.1.1.0/24
+send l1 t1
+receive l1 t1
+decide t1 10.1.1.0/24
+mark 1
+mark 2
+";
+
+// A shelf with the plan of the rack and the leaf, and this script.
+fn shelf_with(alloc: Global, script: &str) -> Result<MemoryShelf, Fail> {
+    let mut shelf = MemoryShelf::new(alloc);
+    shelf.hold(alloc, "q.toml", TWO.as_bytes())?;
+    shelf.hold(alloc, "s.toml", script.as_bytes())?;
+    Ok(shelf)
+}
+
+// A run until quiet: its answers, and its trace.
+#[test]
+fn run_until_quiet(rt: HostRuntime) -> Result<(), Fail> {
+    let alloc = rt.alloc();
+    let words = words(alloc, &["serial", "q.toml", "s.toml", "t.txt"])?;
+    let mut shelf = shelf_with(alloc, UNTIL_QUIET)?;
+    let mut out = MemoryOut::new(alloc);
+    let status = command(alloc, words.as_slice(), &mut shelf, &mut out);
+    assert_eq!(rt; status, Status::Ok);
+    assert_eq!(rt; out.taken(), TABLES.as_bytes());
+    assert!(rt;
+        shelf
+            .read(alloc, "t.txt", 1000)
+            .is_ok_and(|trace| trace.as_slice() == TRACE.as_bytes())
+    );
+    Ok(())
+}
+
+// A script in another form: one line, and no trace.
+#[test]
+fn script_in_another_form(rt: HostRuntime) -> Result<(), Fail> {
+    let alloc = rt.alloc();
+    let words = words(alloc, &["serial", "q.toml", "s.toml", "t.txt"])?;
+    let mut shelf = shelf_with(alloc, "version = 2\n")?;
+    let mut out = MemoryOut::new(alloc);
+    let status = command(alloc, words.as_slice(), &mut shelf, &mut out);
+    assert_eq!(rt; status, Status::Unbuilt);
+    assert_eq!(rt; out.taken(), b"not built yet: script text\n".as_slice());
+    assert!(rt; matches!(shelf.read(alloc, "t.txt", 1000), Err(ReadAnswer::Failed)));
+    Ok(())
+}
+
+// The second read fails; then the write, which is the third call, so that nothing is put; and then the
+// second put, which takes three bytes.
+#[test]
+fn failing_calls_of_a_run(rt: HostRuntime) -> Result<(), Fail> {
+    let alloc = rt.alloc();
+    let words = words(alloc, &["serial", "q.toml", "s.toml", "t.txt"])?;
+    let mut shelf = shelf_with(alloc, UNTIL_QUIET)?;
+    shelf.trip(vec![in alloc; Trip { call: 2, taken: 0 }, Trip { call: 5, taken: 0 }]?);
+    let mut out = MemoryOut::new(alloc);
+    let status = command(alloc, words.as_slice(), &mut shelf, &mut out);
+    assert_eq!(rt; status, Status::ReadFault);
+    assert_eq!(rt; out.taken(), b"cannot read s.toml\n".as_slice());
+    let mut out = MemoryOut::new(alloc);
+    let status = command(alloc, words.as_slice(), &mut shelf, &mut out);
+    assert_eq!(rt; status, Status::WriteFault);
+    assert_eq!(rt; out.taken(), b"".as_slice());
+    let mut out = MemoryOut::new(alloc);
+    out.trip(vec![in alloc; Trip { call: 2, taken: 3 }]?);
+    let status = command(alloc, words.as_slice(), &mut shelf, &mut out);
+    assert_eq!(rt; status, Status::WriteFault);
+    assert_eq!(rt; out.taken(), b"1 work done\n2 p".as_slice());
     Ok(())
 }

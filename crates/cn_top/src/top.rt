@@ -1,19 +1,26 @@
 //! The top call.
 
-ghost use Rattle.std.specs.Prelude.{◌≡◌, ◌≢◌, ◌≤◌, ◌<◌, ◌++◌, ℕ, List, map, string_bytes, MatchResult, IsTrue};
-ghost use Rattle.cn_outside.specs.Shelf.{SameAtEach};
+ghost use Rattle.std.specs.Prelude.{◌≡◌, ◌≢◌, ◌≤◌, ◌⊎◌, ◌<◌, ◌++◌, ℕ, List, map, string_bytes, MatchResult, IsTrue};
+ghost use Rattle.std.specs.List.{concat};
+ghost use Rattle.cn_outside.specs.Shelf.{RisesOnlyAt, SameAtEach, SameBut};
 ghost use Rattle.cn_cert.specs.declared.refusal.Refusal.{Refusal as RefusalValue};
+ghost use Rattle.cn_net.specs.Opening.{Opening};
+ghost use Rattle.cn_readscript.specs.declared.command.Command.{Command};
+ghost use Rattle.cn_top.specs.declared.serial.Run.{Run as RunValue};
 ghost use Rattle.cn_top.specs.Emulation.{Emulation, is_outside, AllEmulated, CertificateFails, IsRefusedBy};
-ghost use Rattle.cn_top.specs.Ending.{Ends, Answers, RisesOnlyFor};
-ghost use Rattle.cn_top.specs.Form.{form_of, plan_form, usage_form};
-ghost use Rattle.cn_top.specs.Outcome.{Plans, IsUnbuilt, MeetsNoFault, IsUnlessMemory};
+ghost use Rattle.cn_top.specs.Ending.{Ends, EndsRun, KeepsNames, Outcome, PutsAll, RisesOnlyFor, WritesOnlyFor};
+ghost use Rattle.cn_top.specs.Form.{form_of, usage_form};
+ghost use Rattle.cn_top.specs.Outcome.{AsksForPlan, AsksForRun, HoldsTrace, IsUnbuilt, IsUnlessMemory, MeetsNoFault, Plans, ReadsName, WroteBadly};
+ghost use Rattle.cn_top.specs.Serial.{IsRunOf};
 ghost use Rattle.cn_top.specs.Texts.{plan_text, refused_line, unbuilt_line, unread_line, usage_line};
 
 use crate::answer::Answer;
 use crate::form::{Form, form_of};
 use crate::plan::plan_means;
+use crate::serial::{Meant, Run, serial_means};
 use crate::status::Status;
 use crate::texts;
+use cn_base::Items;
 use cn_outside::{Out, Shelf, WriteAnswer};
 use std::alloc::{AllocError, Global};
 
@@ -41,79 +48,154 @@ fn finish<O: Out>(alloc: Global, out: &mut O, means: Result<Answer, AllocError>)
     }
 }
 
+/// Puts the texts, each by one put, in their order.
+fn put_all<O: Out>(alloc: Global, out: &mut O, texts: &[Items<u8>]) -> Status
+    ensures puts { PutsAll O.tells (O.taken out.old) (O.taken out.new) (O.faults out.old) (O.faults out.new) texts.now result }
+    ensures later { O.faults out.old ≤ O.faults out.new }
+{
+    for text in texts {
+        match out.put(alloc, text.items()) {
+            Ok(()) => {}
+            Err(WriteAnswer::Failed) => return Status::WriteFault,
+            Err(WriteAnswer::Memory) => return Status::NoMemory,
+        }
+    }
+    Status::Ok
+}
+
+/// Writes the trace of a run under its name, and then puts the answers.
+fn end_run<S: Shelf, O: Out>(
+    alloc: Global,
+    shelf: &mut S,
+    out: &mut O,
+    trace: &str,
+    run: &Run,
+) -> Status
+    ensures ends { EndsRun trace.now S.tells (S.held shelf.old) (S.held shelf.new) (S.write_faults shelf.old) (S.write_faults shelf.new)
+        O.tells (O.taken out.old) (O.taken out.new) (O.faults out.old) (O.faults out.new) run.now result }
+    ensures held { SameBut trace.now (S.held shelf.old) (S.held shelf.new) }
+    ensures reads { SameAtEach (S.read_faults shelf.old) (S.read_faults shelf.new) }
+    ensures writes { RisesOnlyAt trace.now (S.write_faults shelf.old) (S.write_faults shelf.new) }
+    ensures later { O.faults out.old ≤ O.faults out.new }
+{
+    match shelf.write(alloc, trace, run.trace.items()) {
+        Ok(()) => put_all(alloc, out, run.texts.items()),
+        Err(WriteAnswer::Failed) => Status::WriteFault,
+        Err(WriteAnswer::Memory) => Status::NoMemory,
+    }
+}
+
 fn run<S: Shelf, O: Out>(alloc: Global, words: &[String], shelf: &mut S, out: &mut O) -> Status
-    ensures answers { Answers (form_of (map string_bytes words.now)) S.tells (S.held shelf.old) (S.read_faults shelf.old) (S.read_faults shelf.new)
+    ensures answers { Outcome (form_of (map string_bytes words.now)) S.tells (S.held shelf.old) (S.held shelf.new)
+        (S.read_faults shelf.old) (S.read_faults shelf.new) (S.write_faults shelf.old) (S.write_faults shelf.new)
         O.tells (O.taken out.old) (O.taken out.new) (O.faults out.old) (O.faults out.new) result }
-    ensures held { SameAtEach (S.held shelf.old) (S.held shelf.new) }
+    ensures held { KeepsNames (form_of (map string_bytes words.now)) (S.held shelf.old) (S.held shelf.new) }
     ensures reads { RisesOnlyFor (form_of (map string_bytes words.now)) (S.read_faults shelf.old) (S.read_faults shelf.new) }
-    ensures writes { SameAtEach (S.write_faults shelf.old) (S.write_faults shelf.new) }
+    ensures writes { WritesOnlyFor (form_of (map string_bytes words.now)) (S.write_faults shelf.old) (S.write_faults shelf.new) }
     ensures later { O.faults out.old ≤ O.faults out.new }
 {
     match form_of(words) {
         Form::Usage => end(alloc, out, Status::Usage, texts::usage_line()),
         Form::Later(word) => finish(alloc, out, Answer::unbuilt(alloc, word)),
         Form::Plan(file) => finish(alloc, out, plan_means(alloc, file, shelf)),
+        Form::Serial {
+            file,
+            script,
+            trace,
+        } => match serial_means(alloc, file, script, shelf) {
+            Ok(Meant::Line(answer)) => end(alloc, out, answer.status, answer.text.items()),
+            Ok(Meant::Run(run)) => end_run(alloc, shelf, out, trace, &run),
+            Err(_) => Status::NoMemory,
+        },
     }
 }
 
-/// Does what the words ask for, and puts the answer by one put. The words are the arguments after the
-/// program's name.
+/// Does what the words ask for, and puts the answer. The words are the arguments after the program's
+/// name.
 ///
 /// `plan FILE` reads a plan, checks the certificate of its boundary and puts the plan or the first
-/// refusal. Each "exactly where" of the clauses yields to want of memory (status 5, of which no clause
-/// says when it comes), and to statuses 3 and 4, which come only where a count of failed calls rose.
+/// refusal, by one put.
+///
+/// `serial FILE SCRIPT TRACE` reads a plan and a script, runs the script in the serial order on an
+/// emulation of all devices of the plan, writes the trace of what happened under TRACE, and then puts the
+/// answer to each command, one put for each. A `pull` that is answered quiet shows the routes (RFC 4271,
+/// section 3.2) that every device holds in a stable state of the network, and every other stable state
+/// gives the emulated devices the same routes; a `pull` that is answered again names what is first pending.
+/// Where the plan or the script can't be run, one line is put, and no file is touched.
+///
+/// All reads come before all writes. Each "exactly where" of the clauses yields to want of memory
+/// (status 5, of which no clause says when it comes), and to statuses 3 and 4, which come only where a
+/// count of failed calls rose.
 pub fn command<S: Shelf, O: Out>(
     alloc: Global,
     words: &[String],
     shelf: &mut S,
     out: &mut O,
 ) -> Status
-    // All of it: what is meant by the words and by what the named file held when the call began, and how the
-    // put of it ends: whole, or in part with 4, or not at all with 5.
-    ensures answers { Answers (form_of (map string_bytes words.now)) S.tells (S.held shelf.old) (S.read_faults shelf.old) (S.read_faults shelf.new)
+    // All of it: what is meant by the words and by what the named files held when the call began, and how the
+    // call ends: whole, or in part with 4 or 5.
+    ensures answers { Outcome (form_of (map string_bytes words.now)) S.tells (S.held shelf.old) (S.held shelf.new)
+        (S.read_faults shelf.old) (S.read_faults shelf.new) (S.write_faults shelf.old) (S.write_faults shelf.new)
         O.tells (O.taken out.old) (O.taken out.new) (O.faults out.old) (O.faults out.new) result }
 
     // 2 comes exactly where the words are no listed form.
     ensures usage { result ≡ Status.Usage → (form_of (map string_bytes words.now) ≡ usage_form)
         × (IsTrue O.tells → O.taken out.new ≡ O.taken out.old ++ usage_line) }
     ensures not_listed { form_of (map string_bytes words.now) ≡ usage_form
-        → MeetsNoFault (form_of (map string_bytes words.now)) (S.read_faults shelf.old) (S.read_faults shelf.new) (O.faults out.old) (O.faults out.new)
+        → MeetsNoFault (form_of (map string_bytes words.now)) (S.read_faults shelf.old) (S.read_faults shelf.new) (S.write_faults shelf.old) (S.write_faults shelf.new) (O.faults out.old) (O.faults out.new)
         → IsUnlessMemory result Status.Usage }
 
-    // 3 comes only where the count of failed reads of the named file rose, and 4 only where the out's count rose.
-    ensures read_fault { result ≡ Status.ReadFault → (file : List ℕ) × (form_of (map string_bytes words.now) ≡ plan_form file)
+    // 3 comes only where the count of failed reads of a named file rose, and 4 only where the out's count rose
+    // or that of failed writes of the trace.
+    ensures read_fault { result ≡ Status.ReadFault → (file : List ℕ) × ReadsName (form_of (map string_bytes words.now)) file
         × (S.read_faults shelf.old file < S.read_faults shelf.new file) × (IsTrue O.tells → O.taken out.new ≡ O.taken out.old ++ unread_line file) }
-    ensures write_fault { result ≡ Status.WriteFault → O.faults out.old < O.faults out.new }
+    ensures write_fault { result ≡ Status.WriteFault → (O.faults out.old < O.faults out.new)
+        ⊎ WroteBadly (form_of (map string_bytes words.now)) (S.write_faults shelf.old) (S.write_faults shelf.new) }
 
-    // 0 comes exactly where the file stands for a network whose devices are all emulated.
-    ensures ok { IsTrue S.tells → result ≡ Status.Ok → (e : Emulation) × Plans (form_of (map string_bytes words.now)) (S.held shelf.old) e
+    // 0 of a plan comes exactly where the file stands for a network whose devices are all emulated.
+    ensures ok { IsTrue S.tells → result ≡ Status.Ok → AsksForPlan (form_of (map string_bytes words.now))
+        → (e : Emulation) × Plans (form_of (map string_bytes words.now)) (S.held shelf.old) e
         × AllEmulated e.net (is_outside e) × (IsTrue O.tells → O.taken out.new ≡ O.taken out.old ++ plan_text e.net) }
-    ensures all_emulated { (e : Emulation) → IsTrue S.tells → Plans (form_of (map string_bytes words.now)) (S.held shelf.old) e → AllEmulated e.net (is_outside e)
-        → MeetsNoFault (form_of (map string_bytes words.now)) (S.read_faults shelf.old) (S.read_faults shelf.new) (O.faults out.old) (O.faults out.new)
+    ensures all_emulated { (e : Emulation) → IsTrue S.tells → AsksForPlan (form_of (map string_bytes words.now))
+        → Plans (form_of (map string_bytes words.now)) (S.held shelf.old) e → AllEmulated e.net (is_outside e)
+        → MeetsNoFault (form_of (map string_bytes words.now)) (S.read_faults shelf.old) (S.read_faults shelf.new) (S.write_faults shelf.old) (S.write_faults shelf.new) (O.faults out.old) (O.faults out.new)
         → IsUnlessMemory result Status.Ok }
 
-    // 1 comes exactly where the file stands for a network whose certificate fails, and its first refusal is put.
+    // 0 of a run comes exactly where the files stand for one: an emulation of all devices and a script. The trace
+    // is that of the serial play, and the answers are those to the commands.
+    ensures ran { IsTrue S.tells → result ≡ Status.Ok
+        → AsksForPlan (form_of (map string_bytes words.now)) ⊎ ((o : Opening) × (commands : List Command) × (run : RunValue)
+        × AsksForRun (form_of (map string_bytes words.now)) (S.held shelf.old) o commands × IsRunOf o commands run
+        × HoldsTrace (form_of (map string_bytes words.now)) (S.held shelf.new) run.trace × (IsTrue O.tells → O.taken out.new ≡ O.taken out.old ++ concat run.texts)) }
+    ensures runs { (o : Opening) (commands : List Command) → IsTrue S.tells → AsksForRun (form_of (map string_bytes words.now)) (S.held shelf.old) o commands
+        → MeetsNoFault (form_of (map string_bytes words.now)) (S.read_faults shelf.old) (S.read_faults shelf.new) (S.write_faults shelf.old) (S.write_faults shelf.new) (O.faults out.old) (O.faults out.new)
+        → IsUnlessMemory result Status.Ok }
+
+    // 1 comes exactly where the plan's file stands for a network whose certificate fails, and its first refusal is
+    // put.
     ensures refused { IsTrue S.tells → result ≡ Status.Refused → (e : Emulation) × (refusal : RefusalValue)
         × Plans (form_of (map string_bytes words.now)) (S.held shelf.old) e × CertificateFails e.net (is_outside e) × IsRefusedBy e.net (is_outside e) refusal
         × (IsTrue O.tells → O.taken out.new ≡ O.taken out.old ++ refused_line e.net refusal) }
     ensures uncertified { (e : Emulation) → IsTrue S.tells → Plans (form_of (map string_bytes words.now)) (S.held shelf.old) e → CertificateFails e.net (is_outside e)
-        → MeetsNoFault (form_of (map string_bytes words.now)) (S.read_faults shelf.old) (S.read_faults shelf.new) (O.faults out.old) (O.faults out.new)
+        → MeetsNoFault (form_of (map string_bytes words.now)) (S.read_faults shelf.old) (S.read_faults shelf.new) (S.write_faults shelf.old) (S.write_faults shelf.new) (O.faults out.old) (O.faults out.new)
         → IsUnlessMemory result Status.Refused }
 
-    // 9 comes exactly where a command, a form of plans or the check of records isn't built yet.
+    // 9 comes exactly where a command, a form of plans or scripts or the check of records isn't built yet.
     ensures unbuilt { IsTrue S.tells → result ≡ Status.Unbuilt → (what : List ℕ) × IsUnbuilt (form_of (map string_bytes words.now)) (S.held shelf.old) what
         × (IsTrue O.tells → O.taken out.new ≡ O.taken out.old ++ unbuilt_line what) }
     ensures not_built { (what : List ℕ) → IsTrue S.tells → IsUnbuilt (form_of (map string_bytes words.now)) (S.held shelf.old) what
-        → MeetsNoFault (form_of (map string_bytes words.now)) (S.read_faults shelf.old) (S.read_faults shelf.new) (O.faults out.old) (O.faults out.new)
+        → MeetsNoFault (form_of (map string_bytes words.now)) (S.read_faults shelf.old) (S.read_faults shelf.new) (S.write_faults shelf.old) (S.write_faults shelf.new) (O.faults out.old) (O.faults out.new)
         → IsUnlessMemory result Status.Unbuilt }
 
     // The other statuses are for commands that aren't built yet.
     ensures never { (result ≢ Status.BadText) × (result ≢ Status.BadNet) × (result ≢ Status.BadTrace) }
 
-    // All names hold what they held, and no count rises but those that may.
-    ensures held { SameAtEach (S.held shelf.old) (S.held shelf.new) }
+    // All names but that of a run's trace hold what they held, and that too unless the status is 0, 4 or 5; and
+    // no count rises but those that may.
+    ensures held { KeepsNames (form_of (map string_bytes words.now)) (S.held shelf.old) (S.held shelf.new) }
+    ensures refusing { result ≢ Status.Ok → result ≢ Status.WriteFault → result ≢ Status.NoMemory → SameAtEach (S.held shelf.old) (S.held shelf.new) }
     ensures reads { RisesOnlyFor (form_of (map string_bytes words.now)) (S.read_faults shelf.old) (S.read_faults shelf.new) }
-    ensures writes { SameAtEach (S.write_faults shelf.old) (S.write_faults shelf.new) }
+    ensures writes { WritesOnlyFor (form_of (map string_bytes words.now)) (S.write_faults shelf.old) (S.write_faults shelf.new) }
     ensures later { O.faults out.old ≤ O.faults out.new }
 {
     run(alloc, words, shelf, out)

@@ -21,4 +21,4 @@ pub returns : goal.returns
 returns c =
     let all : c.loop-name.name-index ≡ length c.args.names.now = omega arith in
     let found = subst (λ (n : ℕ). Found c.args.net.now c.args.names.now c.loop-name.devices.items n) all c.loop-name.invariant in
-    selects c.args.net.now c.valid.ensures c.args.names.now c.loop-name.devices.items found c.make.result c.make.ensures.holds
+    (selects c.args.net.now c.valid.ensures c.args.names.now c.loop-name.devices.items found c.make.result c.make.ensures.holds, c.make.ensures.within)
