@@ -1,0 +1,12 @@
+pub mod Alone
+pub mod Deciding
+pub mod Finding
+pub mod Gathering
+pub mod Lookups
+pub mod Members
+pub mod Pairs
+pub mod Saying
+pub mod Settling
+pub mod Parts
+pub mod Sorting
+pub mod Turns
