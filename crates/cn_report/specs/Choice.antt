@@ -1,17 +1,9 @@
 -- What a device holds for a prefix, as a text.
 use Rattle.std.specs.Prelude.{ℕ, codes, List, ◌++◌, Option, Some, None}
 use Rattle.cn_base.specs.declared.ids.DeviceId.{DeviceId}
-use Rattle.cn_base.specs.declared.ids.Origin.{Origin}
-use Rattle.cn_base.specs.declared.ids.Origin.TheVariants.{Igp, Egp, Incomplete}
 use Rattle.cn_base.specs.declared.route.Choice.{Choice}
 use Rattle.cn_net.specs.Network.{Network, name_of}
-use Rattle.cn_text.specs.Printed.{path_text}
-
--- the name of an ORIGIN (RFC 4271, 5.1.1)
-abbrev pub origin_word : Origin → List ℕ
-origin_word Igp = codes "igp"
-origin_word Egp = codes "egp"
-origin_word Incomplete = codes "incomplete"
+use Rattle.cn_text.specs.Printed.{path_text, origin_text}
 
 -- where a route came from: the device itself, or the device that sent it
 abbrev pub source_text : Network → Option DeviceId → List ℕ
@@ -20,4 +12,4 @@ source_text net (Some sender) = codes "from " ++ name_of net sender
 
 -- a choice: where it came from, its path and its ORIGIN
 abbrev pub choice_text : Network → Choice → List ℕ
-choice_text net c = source_text net c.from ++ codes " path " ++ path_text c.path ++ codes " origin " ++ origin_word c.origin
+choice_text net c = source_text net c.from ++ codes " path " ++ path_text c.path ++ codes " origin " ++ origin_text c.origin

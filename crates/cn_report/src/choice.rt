@@ -1,23 +1,13 @@
 //! What a device holds for a prefix, at the end of a text.
 
 ghost use Rattle.std.specs.Prelude.{◌≡◌, ◌++◌, OnErr, OnOk, length, take};
-ghost use Rattle.cn_report.specs.Choice.{choice_text, origin_word, source_text};
+ghost use Rattle.cn_report.specs.Choice.{choice_text, source_text};
 
 use crate::names::put_name;
-use cn_base::{Choice, DeviceId, Origin};
+use cn_base::{Choice, DeviceId};
 use cn_net::Net;
-use cn_text::put_path;
+use cn_text::{origin_text, put_path};
 use std::alloc::{AllocError, Global};
-
-fn origin_word(origin: Origin) -> &'static [u8]
-    ensures { result.now ≡ origin_word origin }
-{
-    match origin {
-        Origin::Igp => b"igp",
-        Origin::Egp => b"egp",
-        Origin::Incomplete => b"incomplete",
-    }
-}
 
 /// Where a choice came from. After want of memory a part of it may stand there.
 fn put_source(text: &mut Vec<u8>, net: &Net, from: Option<DeviceId>) -> Result<(), AllocError>
@@ -47,7 +37,7 @@ fn put_parts(
     text.extend_from_slice(b" path ")?;
     put_path(alloc, text, &choice.path)?;
     text.extend_from_slice(b" origin ")?;
-    text.extend_from_slice(origin_word(choice.origin))
+    text.extend_from_slice(origin_text(choice.origin))
 }
 
 /// Appends what a device holds for a prefix.

@@ -14,6 +14,7 @@ mod tables;
 
 pub use answers::{print_answer, print_done, print_pull};
 pub use choice::put_choice;
+pub use names::{put_name, put_pair};
 
 #[cfg(test)]
 mod tests;

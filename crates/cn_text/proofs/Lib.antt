@@ -4,4 +4,7 @@ pub mod Printed
 pub mod Steps
 pub mod Address
 pub mod Prefix
+pub mod Further
+pub mod Paths
 pub mod Wholes
+pub mod Words

@@ -10,7 +10,7 @@ use Rattle.std.proofs.lemmas.Str.Parse.{tells_by_index}
 use Rattle.cn_text.specs.Number.{is_digit, digit_count, value, number_in}
 use Rattle.cn_text.proofs.Spelling.{AreDigits, own}
 
-is_digit_in : (b : ℕ) → IsInRange 48 57 b → is_digit b ≡ true
+pub is_digit_in : (b : ℕ) → IsInRange 48 57 b → is_digit b ≡ true
 is_digit_in b h = grind (arith, nat_tests)
 
 no_run : (tail : List ℕ) → is_digit (get_or tail 0 0) ≡ false → prefix_len is_digit tail ≡ 0

@@ -69,7 +69,7 @@ taken (Err b) f y e go = absurd cc
 pub number_reads : (bytes tail : List ℕ) (at max n : ℕ) → drop at bytes ≡ decimal n ++ tail → n ≤ max → n < 2 ^ 64 → is_digit (get_or tail 0 0) ≡ false → number_at bytes at max ≡ Ok (n, at + length (decimal n))
 number_reads bytes tail at max n e le small h = rw e (printed_is_read n max at tail le small h)
 
-some_from : (bytes tail : List ℕ) (at mark : ℕ) → drop at bytes ≡ mark ∷ tail → slice_get bytes at ≡ Some mark
+pub some_from : (bytes tail : List ℕ) (at mark : ℕ) → drop at bytes ≡ mark ∷ tail → slice_get bytes at ≡ Some mark
 some_from bytes tail at mark e =
     let here : get_or bytes at 0 ≡ mark = ap (λ (k : ℕ). get_or bytes k 0) (omega arith) ∙ sym (get_or-drop at bytes 0 0) ∙ ap (λ (xs : List ℕ). get_or xs 0 0) e in
     let within : at < length bytes = omega (arith, length-drop at bytes, ap length e) in

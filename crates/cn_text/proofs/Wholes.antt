@@ -5,11 +5,13 @@ use Rattle.std.proofs.lemmas.Bool.{cases_Bool}
 use Rattle.std.proofs.lemmas.Bool.Decides.{nat_tests}
 use Rattle.std.proofs.lemmas.List.{append-nil}
 use Rattle.cn_base.specs.Cidr.{Cidr, IsCidr}
-use Rattle.cn_text.specs.Printed.{address, prefix_text}
-use Rattle.cn_text.specs.Atoms.{address_at, prefix_at, address_of, prefix_of, whole}
+use Rattle.cn_base.specs.declared.ids.Asn.{Asn}
+use Rattle.cn_text.specs.Printed.{address, prefix_text, path_text}
+use Rattle.cn_text.specs.Atoms.{address_at, prefix_at, path_at, address_of, prefix_of, path_of, whole, IsPath}
 use Rattle.cn_text.specs.declared.number.Bad.{Bad}
 use Rattle.cn_text.proofs.Address.{address_spells, address_reads}
 use Rattle.cn_text.proofs.Prefix.{prefix_spells, prefix_reads}
+use Rattle.cn_text.proofs.Paths.{path_spells, path_reads}
 use Rattle.cn_text.proofs.Steps.{Spells}
 
 whole_is : {A : Type 0} (text : List ℕ) (read : Result (A × ℕ) Bad) (x : A) → whole text read ≡ Some x → read ≡ Ok (x, length text)
@@ -52,3 +54,12 @@ prefix_is_text text p e =
 pub prefix_of-prefix_text : (p : Cidr) → p.bits < 2 ^ 32 → IsCidr p → prefix_of (prefix_text p) ≡ Some p
 prefix_of-prefix_text p small is =
     whole_of (prefix_text p) (prefix_at (prefix_text p) 0) p _ (prefix_reads (prefix_text p) [] 0 p (sym (append-nil (prefix_text p))) small is refl) (omega arith)
+
+pub path_is_text : (text : List ℕ) (path : List Asn) → path_of text ≡ Some path → IsPath path × (text ≡ path_text path)
+path_is_text text path e =
+    let h = path_spells text 0 (path, length text) (whole_is text (path_at text 0) path e) in
+    (h.1, text_is text (path_text path) h.0)
+
+pub path_of-path_text : (path : List Asn) → IsPath path → path_of (path_text path) ≡ Some path
+path_of-path_text path is =
+    whole_of (path_text path) (path_at (path_text path) 0) path _ (path_reads (path_text path) [] 0 path (sym (append-nil (path_text path))) is refl refl) (omega arith)

@@ -1,8 +1,10 @@
--- The one spelling of an address, of a prefix and of a path.
+-- The one spelling of an address, of a prefix, of a path and of an ORIGIN.
 use Rattle.std.specs.Prelude.{ℕ, ◌/◌, ◌%◌, codes, List, [], ◌∷◌, ◌++◌, flat_map}
 use Rattle.std.specs.Fmt.{decimal}
 use Rattle.cn_base.specs.Cidr.{Cidr}
 use Rattle.cn_base.specs.declared.ids.Asn.{Asn}
+use Rattle.cn_base.specs.declared.ids.Origin.{Origin}
+use Rattle.cn_base.specs.declared.ids.Origin.TheVariants.{Igp, Egp, Incomplete}
 
 -- the four octets, joined by dots
 abbrev pub address : ℕ → List ℕ
@@ -20,3 +22,9 @@ further_numbers numbers = flat_map (λ n. codes " " ++ decimal n.0) numbers
 abbrev pub path_text : List Asn → List ℕ
 path_text [] = codes "-"
 path_text (n ∷ ns) = decimal n.0 ++ further_numbers ns
+
+-- the word for an ORIGIN (RFC 4271, 5.1.1)
+abbrev pub origin_text : Origin → List ℕ
+origin_text Igp = codes "igp"
+origin_text Egp = codes "egp"
+origin_text Incomplete = codes "incomplete"

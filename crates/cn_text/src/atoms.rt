@@ -10,7 +10,7 @@ use crate::number::{Bad, read_number};
 use cn_base::Prefix;
 
 /// The place after the mark that stands at a place.
-fn read_mark(bytes: &[u8], at: usize, mark: u8) -> Result<usize, Bad>
+pub fn read_mark(bytes: &[u8], at: usize, mark: u8) -> Result<usize, Bad>
     ensures value { result ≡ mark_at bytes.now at mark }
     ensures within { IfOk result (λ after. after ≤ length bytes.now) }
 {

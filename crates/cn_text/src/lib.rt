@@ -1,7 +1,7 @@
 //! What the project's texts are made of, and why a text stands for nothing.
 //!
-//! The atoms of texts are numbers, addresses, prefixes and paths. `read_*` reads one at a place of a text,
-//! and `put_*` appends one; a path is appended alone. Each has one spelling: `specs/Number.antt` and
+//! The atoms of texts are numbers, addresses, prefixes, paths and the words for an ORIGIN. `read_*` reads one at
+//! a place of a text, and `put_*` appends one; a word stands alone. Each has one spelling: `specs/Number.antt` and
 //! `specs/Atoms.antt` say what is read, `specs/Printed.antt` what is printed, and the laws here that the
 //! two are the same. A string of a plan is an atom as a whole, which `whole` tests. The crates above also
 //! take from here the one type of the first fault of a text, `TextAnswer`.
@@ -10,6 +10,8 @@
 mod answer;
 mod atoms;
 mod number;
+mod origin;
+mod path;
 mod print;
 
 pub use answer::{PathText, TextAnswer};
@@ -18,6 +20,8 @@ pub use atoms::{
     read_prefix, whole,
 };
 pub use number::{Bad, number_has_one_spelling, read_number};
+pub use origin::{origin_has_one_spelling, origin_of, origin_text};
+pub use path::{PathAnswer, path_has_one_spelling, path_of, read_path};
 pub use print::{put_address, put_number, put_path, put_prefix};
 
 #[cfg(test)]

@@ -11,7 +11,8 @@ pub struct Bad {
     pub at: usize,
 }
 
-fn is_digit(byte: u8) -> bool
+/// Holds for a digit.
+pub fn is_digit(byte: u8) -> bool
     ensures { result ≡ is_digit byte }
 {
     byte.is_ascii_digit()

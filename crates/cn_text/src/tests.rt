@@ -1,5 +1,6 @@
 use super::*;
-use cn_base::{AsPath, Asn, Prefix};
+use cn_base::{AsPath, Asn, Origin, Prefix};
+use std::alloc::{AllocError, Global};
 use std::test::Fail;
 
 // Texts, the place where a number up to 255 is read, and the number with the place after it, or the octet refused.
@@ -97,5 +98,116 @@ fn prints_paths(rt: HostRuntime) -> Result<(), Fail> {
         put_path(alloc, &mut out, &path)?;
     }
     assert_eq!(rt; out.as_slice(), b"-, 65201 65102 4294967295".as_slice());
+    Ok(())
+}
+
+// Texts, the place where a path is read, its numbers, and the place after it, or the octet refused.
+#[test]
+fn paths(rt: HostRuntime) -> Result<(), Fail> {
+    let alloc = rt.alloc();
+    for (text, at, numbers, answer) in [
+        ("-", 0usize, [].as_slice(), Ok(1usize)),
+        ("-1", 0, [].as_slice(), Ok(1)),
+        ("0", 0, [Asn(0)].as_slice(), Ok(1)),
+        ("01", 0, [Asn(0)].as_slice(), Ok(1)),
+        (
+            "a 65201 65102",
+            2,
+            [Asn(65201), Asn(65102)].as_slice(),
+            Ok(13),
+        ),
+        (
+            "7 4294967295 origin",
+            0,
+            [Asn(7), Asn(4_294_967_295)].as_slice(),
+            Ok(12),
+        ),
+        ("1  2", 0, [Asn(1)].as_slice(), Ok(1)),
+        ("1 ", 0, [Asn(1)].as_slice(), Ok(1)),
+        ("1 4294967296", 0, [].as_slice(), Err(2usize)),
+        ("4294967296", 0, [].as_slice(), Err(0)),
+        ("x", 0, [].as_slice(), Err(0)),
+        (" 1", 0, [].as_slice(), Err(0)),
+        ("", 0, [].as_slice(), Err(0)),
+    ] {
+        if at <= text.len() {
+            match read_path(alloc, text.as_bytes(), at) {
+                Err(PathAnswer::Memory) => assert!(rt; false, "{text}"),
+                Err(PathAnswer::Bad { at }) => assert!(rt; answer == Err(at), "{text}"),
+                Ok((path, after)) => {
+                    assert!(rt; answer == Ok(after), "{text}");
+                    assert_eq!(rt; path.items(), numbers, "{text}");
+                }
+            }
+        }
+    }
+    Ok(())
+}
+
+// Texts, and whether each is a path as a whole, which is then printed as it was.
+#[test]
+fn whole_paths(rt: HostRuntime) -> Result<(), Fail> {
+    let alloc = rt.alloc();
+    for (text, is_path) in [
+        ("-", true),
+        ("0", true),
+        ("65201 65102 4294967295", true),
+        ("", false),
+        ("- 1", false),
+        ("01", false),
+        ("1 02", false),
+        ("1  2", false),
+        ("1 ", false),
+        (" 1", false),
+        ("1,2", false),
+        ("4294967296", false),
+    ] {
+        match path_of(alloc, text.as_bytes())? {
+            None => assert!(rt; !is_path, "{text}"),
+            Some(path) => {
+                let mut out = Vec::new(alloc);
+                put_path(alloc, &mut out, &path)?;
+                assert!(rt; is_path, "{text}");
+                assert_eq!(rt; out.as_slice(), text.as_bytes());
+            }
+        }
+    }
+    Ok(())
+}
+
+// As many sevens, joined by spaces.
+fn sevens(alloc: Global, count: usize) -> Result<Vec<u8>, AllocError> {
+    let mut text = Vec::from_slice(alloc, b"7")?;
+    for _ in 1..count {
+        text.extend_from_slice(b" 7")?;
+    }
+    Ok(text)
+}
+
+// A path of 255 numbers is read, and of 256 the last is refused.
+#[test]
+fn longest_path(rt: HostRuntime) -> Result<(), Fail> {
+    let alloc = rt.alloc();
+    let most = path_of(alloc, &sevens(alloc, 255)?)?;
+    assert!(rt; most.is_some_and(|path| path.len() == 255));
+    let more = read_path(alloc, &sevens(alloc, 256)?, 0);
+    assert!(rt; matches!(more, Err(PathAnswer::Bad { at: 510 })));
+    Ok(())
+}
+
+// Texts, and the ORIGIN that each is as a whole.
+#[test]
+fn origins(rt: HostRuntime) -> Result<(), Fail> {
+    for (text, origin) in [
+        ("igp", Some(Origin::Igp)),
+        ("egp", Some(Origin::Egp)),
+        ("incomplete", Some(Origin::Incomplete)),
+        ("IGP", None),
+        ("igp ", None),
+        ("ig", None),
+        ("", None),
+    ] {
+        assert_eq!(rt; origin_of(text.as_bytes()), origin, "{text}");
+    }
     Ok(())
 }
