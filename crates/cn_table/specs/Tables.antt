@@ -6,7 +6,9 @@ use Rattle.std.specs.List.{list_any}
 use Rattle.std.specs.Str.{bytes_eq}
 use Rattle.cn_base.specs.Name.{name_of}
 use Rattle.cn_base.specs.Cidr.{Cidr}
-use Rattle.cn_text.specs.Atoms.{address_of, prefix_of}
+use Rattle.cn_base.specs.declared.ids.Asn.{Asn}
+use Rattle.cn_base.specs.declared.ids.Origin.{Origin}
+use Rattle.cn_text.specs.Atoms.{address_of, prefix_of, path_of, origin_of}
 use Rattle.cn_text.specs.declared.answer.TextAnswer.{TextAnswer}
 use Rattle.cn_text.specs.declared.answer.TextAnswer.TheVariants.{Key, Shape, Value}
 use Rattle.cn_table.specs.Reading.{◌>>=◌}
@@ -43,6 +45,16 @@ name_at front key ms = do
   d ← needed front key ms
   name_in (front ++ key) d
 
+-- the name at a key that may be absent
+abbrev pub name_if_in : List ℕ → Option Data → Result (Option (List ℕ)) TextAnswer
+name_if_in path None = Ok None
+name_if_in path (Some d) = do
+  name ← name_in path d
+  Ok (Some name)
+
+unfoldable pub name_if_at : List ℕ → List ℕ → Members → Result (Option (List ℕ)) TextAnswer
+name_if_at front key ms = name_if_in (front ++ key) (get_member key ms)
+
 -- the address that a string is as a whole
 unfoldable pub address_in : List ℕ → Data → Result ℕ TextAnswer
 address_in path d = do
@@ -59,6 +71,25 @@ unfoldable pub prefix_in : List ℕ → Data → Result Cidr TextAnswer
 prefix_in path d = do
   text ← text_of path d
   ok_or (prefix_of text) (Value path)
+
+unfoldable pub prefix_at : List ℕ → List ℕ → Members → Result Cidr TextAnswer
+prefix_at front key ms = do
+  d ← needed front key ms
+  prefix_in (front ++ key) d
+
+-- the path of AS numbers that a string is as a whole
+unfoldable pub path_at : List ℕ → List ℕ → Members → Result (List Asn) TextAnswer
+path_at front key ms = do
+  d ← needed front key ms
+  text ← text_of (front ++ key) d
+  ok_or (path_of text) (Value (front ++ key))
+
+-- the ORIGIN that a string is as a whole
+unfoldable pub origin_at : List ℕ → List ℕ → Members → Result Origin TextAnswer
+origin_at front key ms = do
+  d ← needed front key ms
+  text ← text_of (front ++ key) d
+  ok_or (origin_of text) (Value (front ++ key))
 
 -- an integer from low to high
 abbrev pub number_within : ℕ → ℕ → ℤ → Option ℕ

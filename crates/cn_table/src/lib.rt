@@ -19,7 +19,10 @@ mod items;
 mod keys;
 mod lookup;
 
-pub use atoms::{address_at, address_in, name_at, name_in, number_at, prefix_in};
+pub use atoms::{
+    address_at, address_in, name_at, name_if_at, name_in, number_at, origin_at, path_at, prefix_at,
+    prefix_in,
+};
 pub use document::document_of;
 pub use fault::{bad_key_at, bad_shape, bad_shape_at, bad_value, bad_value_at, front_of, key_path};
 pub use items::{NameReader, Reader, each};
