@@ -1,13 +1,13 @@
 -- Tests that decide `≡`, keys that stand twice, and what lists of keys pass on to the lists that they are read from.
-use Rattle.std.proofs.Common.{◌≡◌, ℕ, ◌+◌, ◌<◌, ◌==◌, ◌||◌, Bool, true, false, cond, List, [], ◌∷◌, ◌++◌, length, get_or, take, map, refl, sym, ◌∙◌, ap, arith, true≢false, eq-eqb, subst, not}
+use Rattle.std.proofs.Common.{◌≡◌, ℕ, ◌+◌, ◌<◌, ◌==◌, ◌||◌, Bool, true, false, cond, List, [], ◌∷◌, length, get_or, take, map, refl, sym, ◌∙◌, ap, arith, true≢false, eq-eqb, not}
 use Rattle.std.specs.Bool.{Decides}
 use Rattle.std.specs.Cmp.{IsEquivalence}
 use Rattle.std.specs.List.{IsDistinct, list_any, position_or_len}
 use Rattle.std.proofs.lemmas.Bool.{eqb-true}
 use Rattle.std.proofs.lemmas.Bool.Decides.{same_from_decides, Decides-and}
-use Rattle.std.proofs.lemmas.List.{get_or-take, get_or-map, get_or_default, length-map, length-take-le, map_more, take-map}
+use Rattle.std.proofs.lemmas.List.{get_or-take, get_or_default, length-take-le}
 use Rattle.std.proofs.lemmas.List.Folds.{Any-from_list_any}
-use Rattle.std.proofs.lemmas.Map.Keys.{apart_from_distinct, IsDistinct-push}
+use Rattle.std.proofs.lemmas.Map.Keys.{apart_from_distinct}
 use Rattle.cn_base.specs.Cidr.{Cidr, same_prefix}
 use Rattle.cn_base.specs.declared.ids.DeviceId.{DeviceId}
 use Rattle.cn_base.specs.declared.ids.RouterId.{RouterId}
@@ -52,19 +52,6 @@ not_distinct {eq} laws xs i d within t distinct =
     let apart : eq (get_or xs k a.1) (get_or xs i a.1) ≡ false = apart_from_distinct eq xs k i a.1 distinct below within in
     let turned : eq (get_or xs i a.1) (get_or xs k a.1) ≡ false = laws.symm (get_or xs i a.1) (get_or xs k a.1) ∙ apart in
     true≢false (sym a.4 ∙ (λ j. eq (moved j) (sym same j)) ∙ turned)
-
--- a key read from each element: where the element at i has the key of an earlier one, the keys aren't distinct
-pub map_not_distinct : {X K : Type 0} {eq : K → K → Bool} → IsEquivalence eq → (f : X → K) (xs : List X) (i : ℕ) (x : X) → i < length xs → x ≡ get_or xs i x → list_any (eq (f x)) (map f (take i xs)) ≡ true → IsDistinct eq (map f xs) → ⊥
-map_not_distinct {eq} laws f xs i x within is t distinct =
-    let within' : i < length (map f xs) = rw length-map within in
-    let at : f x ≡ get_or (map f xs) i (f x) = ap f is ∙ sym (get_or-map f xs i x (f x) within) in
-    not_distinct laws (map f xs) i (f x) within' ((λ j. list_any (eq (sym at j)) (take-map f i xs j)) ∙ t) distinct
-
--- and where it has a new key, the keys stay distinct
-pub map_distinct_more : {X K : Type 0} {eq : K → K → Bool} → IsEquivalence eq → (f : X → K) (xs : List X) (i : ℕ) (x : X) → i < length xs → x ≡ get_or xs i x → list_any (eq (f x)) (map f (take i xs)) ≡ false → IsDistinct eq (map f (take i xs)) → IsDistinct eq (map f (take (i + 1) xs))
-map_distinct_more {eq} laws f xs i x within is t distinct =
-    let more : map f (take (i + 1) xs) ≡ map f (take i xs) ++ f x ∷ [] = map_more f xs i x within ∙ ap (λ y. map f (take i xs) ++ f y ∷ []) (sym is) in
-    subst (λ ys. IsDistinct eq ys) (sym more) (IsDistinct-push laws (map f (take i xs)) (f x) distinct t)
 
 -- ---- lists that are read from others
 

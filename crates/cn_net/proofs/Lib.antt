@@ -6,6 +6,9 @@ pub mod Candidates
 pub mod Chains
 pub mod Crossing
 pub mod Drafts
+pub mod Faultless
+pub mod Finding
+pub mod First
 pub mod Keys
 pub mod Linked
 pub mod Making

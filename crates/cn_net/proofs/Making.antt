@@ -1,23 +1,29 @@
 -- A draft and the one network that it can stand for.
-use Rattle.std.proofs.Common.{◌≡◌, ◌≢◌, ℕ, ◌<◌, ◌≤◌, List, String, [], ◌∷◌, length, map, refl, sym, ◌∙◌, ap, subst, arith}
+use Rattle.std.proofs.Common.{◌≡◌, ◌≢◌, ℕ, ◌<◌, ◌≤◌, List, [], ◌∷◌, length, map, refl, sym, ◌∙◌, ap, subst, arith, None}
 use Rattle.std.specs.List.{IsDistinct, All}
+use Rattle.std.specs.Set.{distinct_count}
 use Rattle.std.specs.Str.{bytes_eq}
 use Rattle.std.proofs.lemmas.List.{length-map}
 use Rattle.std.proofs.lemmas.List.Elements.{All-head, All-tail, All-weaker}
+use Rattle.cn_base.specs.Cidr.{same_prefix}
 use Rattle.cn_base.specs.declared.ids.DeviceId.{DeviceId}
-use Rattle.cn_net.specs.Drafted.{draft_of, device_draft, link_draft, StandsForNone}
-use Rattle.cn_net.specs.Ends.{AreJoined}
-use Rattle.cn_net.specs.Kept.{AreNamesOf, IsKept, names_of}
-use Rattle.cn_net.specs.Neighbours.{AreNeighbours}
-use Rattle.cn_net.specs.Network.{Network, name_of}
-use Rattle.cn_net.specs.Numbered.{AreDistinct, AreFew, JoinsAmong, device_made, link_made, place_of}
+use Rattle.cn_net.specs.Drafted.{IfFault, StandsForNone, StandsForOne, draft_of, device_draft, link_draft}
+use Rattle.cn_net.specs.Faults.{◌or_else◌, IsFirstFault, device_fault, fault_of, first_in, link_fault, many_fault, parts_fault, prefixes_fault}
+use Rattle.cn_net.specs.Kept.{names_of}
+use Rattle.cn_net.specs.Network.{Network, name_of, originated}
+use Rattle.cn_net.specs.Numbered.{device_made, link_made, place_of}
 use Rattle.cn_net.specs.Valid.{IsValid, JoinsDevices}
 use Rattle.cn_net.specs.declared.device.Device.{Device}
 use Rattle.cn_net.specs.declared.device.Link.{Link}
 use Rattle.cn_net.specs.declared.draft.DeviceDraft.{DeviceDraft}
 use Rattle.cn_net.specs.declared.draft.Draft.{Draft}
 use Rattle.cn_net.specs.declared.draft.LinkDraft.{LinkDraft}
-use Rattle.cn_net.specs.declared.neighbours.Neighbour.{Neighbour}
+use Rattle.cn_net.specs.declared.fault.NetAnswer.{NetAnswer}
+use Rattle.cn_net.specs.declared.fault.NetAnswer.TheVariants.{Fault, Memory}
+use Rattle.cn_net.specs.declared.fault.What.TheVariants.{Devices, Links, Prefixes}
+use Rattle.cn_net.proofs.Faultless.{AreDistinct, AreJoined, JoinsAmong, devices_distinct, devices_faultless, links_faultless, links_joined}
+use Rattle.cn_net.proofs.Finding.{few_enough, not_many}
+use Rattle.cn_net.proofs.First.{is_first, is_second, neither, told}
 use Rattle.cn_net.proofs.Places.{name_at, name_of-get_or, place_at}
 
 -- ---- there and back
@@ -57,15 +63,9 @@ links_redrafted net (l ∷ ls) all =
     let made = link_made (names_of net.devices) in
     λ j. link_redrafted net l (All-head (JoinsDevices net) (made l) (map made ls) all) j ∷ links_redrafted net ls (All-tail (JoinsDevices net) (made l) (map made ls) all) j
 
--- ---- a network that reads as the draft is the one that the code makes
+-- ---- what a valid network has
 
-pub devices_are : (net : Network) (draft : Draft) → draft_of net ≡ draft → net.devices ≡ map device_made draft.devices
-devices_are net draft reads = sym (remade net.devices) ∙ ap (λ d. map device_made d.devices) reads
-
-pub links_are : (net : Network) (draft : Draft) → IsValid net → draft_of net ≡ draft → net.links ≡ map (link_made (names_of net.devices)) draft.links
-links_are net draft valid reads = sym (links_remade net valid.names net.links valid.ends) ∙ ap (λ d. map (link_made (names_of net.devices)) d.links) reads
-
-pub distinct_from : (net : Network) → IsValid net → AreDistinct net.devices
+distinct_from : (net : Network) → IsValid net → AreDistinct net.devices
 distinct_from net valid = record { names = valid.names; ids = valid.ids; own = valid.own }
 
 among : (net : Network) (l : Link) → JoinsDevices net l → JoinsAmong net.devices l
@@ -74,35 +74,21 @@ among net l j = record { a = j.a; b = j.b; apart = j.apart; systems = j.systems 
 between : (net : Network) (l : Link) → JoinsAmong net.devices l → JoinsDevices net l
 between net l j = record { a = j.a; b = j.b; apart = j.apart; systems = j.systems }
 
-pub joined_from : (net : Network) → IsValid net → AreJoined net.devices net.links
+joined_from : (net : Network) → IsValid net → AreJoined net.devices net.links
 joined_from net valid = record { ends = All-weaker (JoinsDevices net) (JoinsAmong net.devices) (among net) net.links valid.ends; one_link = valid.one_link }
-
--- no network reads as the draft whose devices fail a test of devices
-pub no_devices : (P : List Device → Type 0) (draft : Draft) (devices : List Device) → ((net : Network) → IsValid net → P net.devices) → devices ≡ map device_made draft.devices → (P devices → ⊥) → StandsForNone draft
-no_devices P draft devices holds are fails net valid reads = fails (subst P (devices_are net draft reads ∙ sym are) (holds net valid))
-
--- nor where its links fail to join them
-pub no_links : (draft : Draft) (devices : List Device) → devices ≡ map device_made draft.devices → (AreJoined devices (map (link_made (names_of devices)) draft.links) → ⊥) → StandsForNone draft
-no_links draft devices are fails net valid reads =
-    let same : net.devices ≡ devices = devices_are net draft reads ∙ sym are in
-    fails (subst (λ ds. AreJoined ds (map (link_made (names_of ds)) draft.links)) same (subst (AreJoined net.devices) (links_are net draft valid reads) (joined_from net valid)))
 
 -- ---- what is made
 
-pub kept : {A : Type 0} (net : Network) (keys : List (String A)) (neighbours : List Neighbour) → length net.devices ≤ 4096 → length net.links ≤ 16384 → AreFew net.devices → AreDistinct net.devices → AreJoined net.devices net.links → AreNamesOf net.devices keys → AreNeighbours net.links neighbours → IsKept net keys neighbours
-kept net keys neighbours devices links few distinct joined named seen = record {
-  valid = record {
-    few_devices = devices;
-    few_links = links;
-    few_prefixes = few;
-    names = distinct.names;
-    ids = distinct.ids;
-    own = distinct.own;
-    ends = All-weaker (JoinsAmong net.devices) (JoinsDevices net) (between net) net.links joined.ends;
-    one_link = joined.one_link;
-  };
-  named = named;
-  joined = seen;
+valid_from : (net : Network) → length net.devices ≤ 4096 → length net.links ≤ 16384 → distinct_count same_prefix (originated net) ≤ 16384 → AreDistinct net.devices → AreJoined net.devices net.links → IsValid net
+valid_from net devices links few distinct joined = record {
+  few_devices = devices;
+  few_links = links;
+  few_prefixes = few;
+  names = distinct.names;
+  ids = distinct.ids;
+  own = distinct.own;
+  ends = All-weaker (JoinsAmong net.devices) (JoinsDevices net) (between net) net.links joined.ends;
+  one_link = joined.one_link;
 }
 
 pub reads_as : (net : Network) (draft : Draft) → net.devices ≡ map device_made draft.devices → net.links ≡ map (link_made (names_of net.devices)) draft.links → AreJoined net.devices net.links → draft_of net ≡ draft
@@ -111,6 +97,119 @@ reads_as net draft devices links joined =
     let ds : map device_draft net.devices ≡ draft.devices = ap (map device_draft) devices ∙ redrafted draft.devices in
     let ls : map (link_draft net) net.links ≡ draft.links = ap (map (link_draft net)) links ∙ links_redrafted net draft.links (subst (All (JoinsDevices net)) links all) in
     λ j. record { devices = ds j; links = ls j }
+
+-- ---- the faults of a draft
+
+-- the faults of a draft whose devices are these
+faults_are : (draft : Draft) (devices : List Device) → devices ≡ map device_made draft.devices
+    → fault_of draft ≡ (parts_fault (length draft.devices) (length draft.links) or_else first_in device_fault devices or_else prefixes_fault devices or_else first_in (link_fault devices) draft.links)
+unfolding fault_of
+faults_are draft devices are =
+    ap (λ ds. parts_fault (length draft.devices) (length draft.links) or_else first_in device_fault ds or_else prefixes_fault ds or_else first_in (link_fault ds) draft.links) (sym are)
+
+pub no_fault : (draft : Draft) (devices : List Device) → devices ≡ map device_made draft.devices → parts_fault (length draft.devices) (length draft.links) ≡ None
+    → first_in device_fault devices ≡ None → prefixes_fault devices ≡ None → first_in (link_fault devices) draft.links ≡ None → fault_of draft ≡ None
+no_fault draft devices are parts each prefixes links =
+    let last = prefixes_fault devices or_else first_in (link_fault devices) draft.links in
+    faults_are draft devices are
+    ∙ is_second (parts_fault (length draft.devices) (length draft.links)) (first_in device_fault devices or_else last) parts
+    ∙ is_second (first_in device_fault devices) last each
+    ∙ is_second (prefixes_fault devices) (first_in (link_fault devices) draft.links) prefixes
+    ∙ links
+
+pub parts_told : (draft : Draft) (e : NetAnswer) → IsFirstFault (parts_fault (length draft.devices) (length draft.links)) e → IsFirstFault (fault_of draft) e
+parts_told draft e so =
+    let devices = map device_made draft.devices in
+    let parts = parts_fault (length draft.devices) (length draft.links) in
+    told parts (fault_of draft) e (λ f is.
+    faults_are draft devices refl ∙ is_first parts (first_in device_fault devices or_else prefixes_fault devices or_else first_in (link_fault devices) draft.links) f is)
+    so
+
+pub devices_told : (draft : Draft) (devices : List Device) (e : NetAnswer) → devices ≡ map device_made draft.devices → parts_fault (length draft.devices) (length draft.links) ≡ None
+    → IsFirstFault (first_in device_fault devices) e → IsFirstFault (fault_of draft) e
+devices_told draft devices e are parts so =
+    let last = prefixes_fault devices or_else first_in (link_fault devices) draft.links in
+    told (first_in device_fault devices) (fault_of draft) e (λ f is.
+    faults_are draft devices are
+    ∙ is_second (parts_fault (length draft.devices) (length draft.links)) (first_in device_fault devices or_else last) parts
+    ∙ is_first (first_in device_fault devices) last f is)
+    so
+
+pub prefixes_told : (draft : Draft) (devices : List Device) (e : NetAnswer) → devices ≡ map device_made draft.devices → parts_fault (length draft.devices) (length draft.links) ≡ None
+    → first_in device_fault devices ≡ None → IsFirstFault (prefixes_fault devices) e → IsFirstFault (fault_of draft) e
+prefixes_told draft devices e are parts each so =
+    let last = prefixes_fault devices or_else first_in (link_fault devices) draft.links in
+    told (prefixes_fault devices) (fault_of draft) e (λ f is.
+    faults_are draft devices are
+    ∙ is_second (parts_fault (length draft.devices) (length draft.links)) (first_in device_fault devices or_else last) parts
+    ∙ is_second (first_in device_fault devices) last each
+    ∙ is_first (prefixes_fault devices) (first_in (link_fault devices) draft.links) f is)
+    so
+
+pub links_told : (draft : Draft) (devices : List Device) (e : NetAnswer) → devices ≡ map device_made draft.devices → parts_fault (length draft.devices) (length draft.links) ≡ None
+    → first_in device_fault devices ≡ None → prefixes_fault devices ≡ None → IsFirstFault (first_in (link_fault devices) draft.links) e → IsFirstFault (fault_of draft) e
+links_told draft devices e are parts each prefixes so =
+    let last = prefixes_fault devices or_else first_in (link_fault devices) draft.links in
+    told (first_in (link_fault devices) draft.links) (fault_of draft) e (λ f is.
+    faults_are draft devices are
+    ∙ is_second (parts_fault (length draft.devices) (length draft.links)) (first_in device_fault devices or_else last) parts
+    ∙ is_second (first_in device_fault devices) last each
+    ∙ is_second (prefixes_fault devices) (first_in (link_fault devices) draft.links) prefixes
+    ∙ is)
+    so
+
+-- ---- a draft without a fault stands for a valid network, and no other draft does
+
+few_devices : (devices links : ℕ) → parts_fault devices links ≡ None → devices ≤ 4096
+few_devices devices links e = not_many Devices 4096 devices (neither (many_fault Devices 4096 devices) (many_fault Links 16384 links) e).0
+
+few_links : (devices links : ℕ) → parts_fault devices links ≡ None → links ≤ 16384
+few_links devices links e = not_many Links 16384 links (neither (many_fault Devices 4096 devices) (many_fault Links 16384 links) e).1
+
+few_prefixes : (net : Network) → prefixes_fault net.devices ≡ None → distinct_count same_prefix (originated net) ≤ 16384
+few_prefixes net e = not_many Prefixes 16384 (distinct_count same_prefix (originated net)) e
+
+-- what is made of the devices and the links is valid where no fault is found
+pub made_valid : (net : Network) (draft : Draft) → net.devices ≡ map device_made draft.devices → net.links ≡ map (link_made (names_of net.devices)) draft.links → parts_fault (length draft.devices) (length draft.links) ≡ None
+    → first_in device_fault net.devices ≡ None → prefixes_fault net.devices ≡ None → first_in (link_fault net.devices) draft.links ≡ None → IsValid net
+made_valid net draft devices links parts each prefixes ends =
+    let many : length net.devices ≡ length draft.devices = ap length devices ∙ length-map draft.devices device_made in
+    let total : length net.links ≡ length draft.links = ap length links ∙ length-map draft.links (link_made (names_of net.devices)) in
+    valid_from net (omega (arith, many, few_devices (length draft.devices) (length draft.links) parts)) (omega (arith, total, few_links (length draft.devices) (length draft.links) parts))
+    (few_prefixes net prefixes) (devices_distinct net.devices each)
+    (subst (AreJoined net.devices) (sym links) (links_joined net.devices draft.links ends))
+
+pub stands_for : (draft : Draft) → fault_of draft ≡ None → StandsForOne draft
+stands_for draft none =
+    let devices = map device_made draft.devices in
+    let net : Network = record { devices = devices; links = map (link_made (names_of devices)) draft.links } in
+    let parts = parts_fault (length draft.devices) (length draft.links) in
+    let last = prefixes_fault devices or_else first_in (link_fault devices) draft.links in
+    let one = neither parts (first_in device_fault devices or_else last) (sym (faults_are draft devices refl) ∙ none) in
+    let two = neither (first_in device_fault devices) last one.1 in
+    let three = neither (prefixes_fault devices) (first_in (link_fault devices) draft.links) two.1 in
+    (net, made_valid net draft refl refl one.0 two.0 three.0 three.1, reads_as net draft refl refl (links_joined devices draft.links three.1))
+
+faultless_draft : (net : Network) → IsValid net → fault_of (draft_of net) ≡ None
+faultless_draft net valid =
+    let draft = draft_of net in
+    let devices : length net.devices ≡ length draft.devices = sym (length-map net.devices device_draft) in
+    let links : length net.links ≡ length draft.links = sym (length-map net.links (link_draft net)) in
+    no_fault draft net.devices (sym (remade net.devices))
+    (is_second (many_fault Devices 4096 (length draft.devices)) (many_fault Links 16384 (length draft.links)) (few_enough Devices 4096 (length net.devices) (length draft.devices) devices valid.few_devices)
+    ∙ few_enough Links 16384 (length net.links) (length draft.links) links valid.few_links)
+    (devices_faultless net.devices (distinct_from net valid))
+    (few_enough Prefixes 16384 (distinct_count same_prefix (originated net)) (distinct_count same_prefix (originated net)) refl valid.few_prefixes)
+    (links_faultless net.devices draft.links (subst (AreJoined net.devices) (sym (links_remade net valid.names net.links valid.ends)) (joined_from net valid)))
+
+pub faultless_where : (draft : Draft) → StandsForOne draft → fault_of draft ≡ None
+faultless_where draft (net, valid, reads) = ap fault_of (sym reads) ∙ faultless_draft net valid
+
+pub stands_none : (draft : Draft) (e : NetAnswer) → IsFirstFault (fault_of draft) e → IfFault (StandsForNone draft) e
+stands_none draft (Fault f) so = λ net valid reads.
+    let none : fault_of draft ≡ None = faultless_where draft (net, valid, reads) in
+    cc
+stands_none draft Memory so = tt
 
 -- ---- what the list of neighbours asks
 

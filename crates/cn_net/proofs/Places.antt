@@ -1,5 +1,5 @@
 -- The places of names, in the index and among the devices.
-use Rattle.std.proofs.Common.{◌≡◌, ◌≢◌, ℕ, ◌<◌, Bool, true, false, cond, List, String, [], ◌∷◌, ◌++◌, length, get_or, map, refl, sym, ◌∙◌, ap, arith, Some, None, nat_lt, not, if◌then◌else◌, position, unwrap_or}
+use Rattle.std.proofs.Common.{◌≡◌, ◌≢◌, ℕ, ◌+◌, ◌<◌, Bool, true, false, cond, List, String, [], ◌∷◌, ◌++◌, length, get_or, map, refl, sym, ◌∙◌, ap, arith, Some, None, nat_lt, not, if◌then◌else◌, position, unwrap_or}
 use Rattle.std.specs.List.{IsDistinct, list_any, position_or_len}
 use Rattle.std.specs.Str.{bytes_eq}
 use Rattle.std.specs.String.{string_bytes, string_eq}
@@ -14,7 +14,7 @@ use Rattle.std.proofs.lemmas.Slice.Eq.{bytes_eq-Decides}
 use Rattle.cn_base.specs.declared.ids.DeviceId.{DeviceId}
 use Rattle.cn_net.specs.Kept.{AreNamesOf, names_of}
 use Rattle.cn_net.specs.Network.{Network, name_of}
-use Rattle.cn_net.specs.Numbered.{IsPushed, place_of, texts}
+use Rattle.cn_net.specs.Numbered.{place_of, texts}
 use Rattle.cn_net.proofs.Keys.{list_any-map, position_or_len-map}
 
 -- ---- what `position` says
@@ -41,6 +41,24 @@ place_none keys name e =
     let above = ltb-false n (length keys) (none_cases (nat_lt n (length keys)) n e) in
     let most = prefix_len-le-length (λ k. not (bytes_eq name (string_bytes k))) keys in
     position_or_len-map (bytes_eq name) string_bytes keys ∙ omega (arith, above, most)
+
+-- whether a device bears a name
+pub is_borne : {A : Type 0} (keys : List (String A)) (name : List ℕ) (b : Bool) → b ≡ list_any (λ k. bytes_eq name (string_bytes k)) keys → list_any (bytes_eq name) (texts keys) ≡ b
+is_borne keys name b e = list_any-map (bytes_eq name) string_bytes keys ∙ sym e
+
+-- where no key passes a test, it has no place
+pub unplaced : {K : Type 0} (p : K → Bool) (keys : List K) → list_any p keys ≡ false → position_or_len p keys ≡ length keys
+unplaced p [] none = refl
+unplaced p (k ∷ keys) none =
+    let here : p k ≡ false = grind arith in
+    let later : list_any p keys ≡ false = grind arith in
+    ap (λ t. cond (not t) (1 + position_or_len p keys) 0) here ∙ omega (arith, unplaced p keys later)
+
+pub no_place : {K : Type 0} (p : K → Bool) (keys : List K) → list_any p keys ≡ false → position p keys ≡ None
+no_place p keys none =
+    let n = position_or_len p keys in
+    let above : nat_lt n (length keys) ≡ false = grind (arith, unplaced p keys none) in
+    ap (λ t. cond t (Some n) None) above
 
 -- ---- names by their places
 
@@ -92,11 +110,13 @@ name_stood keys k name b same added old =
     let stands : list_any (string_eq k) keys ≡ true = grind arith in
     text_stands keys k name same ∙ stands
 
-pub name_pushed : {A : Type 0} (keys new : List (String A)) (k : String A) (name : List ℕ) (b : Bool) → string_bytes k ≡ name → b ≡ not (list_any (string_eq k) keys) → new ≡ insert_key string_eq keys k → b ≡ true → IsPushed bytes_eq (texts keys) name (texts new)
+pub name_fresh : {A : Type 0} (keys : List (String A)) (k : String A) (name : List ℕ) (b : Bool) → string_bytes k ≡ name → b ≡ not (list_any (string_eq k) keys) → b ≡ true → list_any (bytes_eq name) (texts keys) ≡ false
+name_fresh keys k name b same added fresh =
+    let none : list_any (string_eq k) keys ≡ false = grind arith in
+    text_stands keys k name same ∙ none
+
+pub name_pushed : {A : Type 0} (keys new : List (String A)) (k : String A) (name : List ℕ) (b : Bool) → string_bytes k ≡ name → b ≡ not (list_any (string_eq k) keys) → new ≡ insert_key string_eq keys k → b ≡ true → texts new ≡ texts keys ++ name ∷ []
 name_pushed keys new k name b same added put fresh =
     let none : list_any (string_eq k) keys ≡ false = grind arith in
     let last : new ≡ keys ++ k ∷ [] = put ∙ ap (λ t. if t then keys else (keys ++ k ∷ [])) none in
-    record {
-      pushed = ap (map string_bytes) last ∙ map-append string_bytes keys (k ∷ []) ∙ ap (λ n. texts keys ++ n ∷ []) same;
-      fresh = text_stands keys k name same ∙ none;
-    }
+    ap (map string_bytes) last ∙ map-append string_bytes keys (k ∷ []) ∙ ap (λ n. texts keys ++ n ∷ []) same

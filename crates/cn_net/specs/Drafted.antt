@@ -29,6 +29,10 @@ draft_of net = record { devices = map device_draft net.devices; links = map (lin
 abbrev pub StandsForNone : Draft → Type 0
 StandsForNone draft = (net : Network) → IsValid net → draft_of net ≡ draft → ⊥
 
+-- a valid network reads as the draft
+abbrev pub StandsForOne : Draft → Type 0
+StandsForOne draft = (net : Network) × IsValid net × (draft_of net ≡ draft)
+
 -- a fact that a fault in the answer tells of; want of memory tells of none
 abbrev pub IfFault : Type 0 → NetAnswer → Type 0
 IfFault P (Fault f) = P

@@ -11,6 +11,7 @@ pub mod Records
 pub mod Kept
 pub mod Numbered
 pub mod Ends
+pub mod Faults
 pub mod Islands
 pub mod Certificate
 pub mod Boundary

@@ -17,13 +17,21 @@ pub enum What {
 /// A fault of a draft. Device numbers are places in the draft, from 0.
 #[derive(Debug, Drop)]
 pub enum NetFault {
+    /// More than 4,096 devices, 16,384 links or 16,384 distinct prefixes, and how many there are.
     TooMany { what: What, count: u64 },
+    /// Two devices have this name.
     DuplicateName { name: Name },
+    /// `b` has the router id of `a`, which stands before it, and no device before `a` has it.
     DuplicateId { a: DeviceId, b: DeviceId },
+    /// The device's own prefixes have this one twice, and up to its second place no other.
     DuplicateOwn { device: DeviceId, prefix: Prefix },
+    /// A link ends at a device of this name, and there is none.
     UnknownName { name: Name },
+    /// Both ends of a link are this device.
     SelfLink { device: DeviceId },
+    /// The ends of a link, in its order, which a link before it has in this order or the other.
     DuplicateLink { a: DeviceId, b: DeviceId },
+    /// The ends of a link, in its order, which have one AS number.
     SameAs { a: DeviceId, b: DeviceId },
 }
 

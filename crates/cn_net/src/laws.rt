@@ -1,6 +1,6 @@
 //! Laws of the definitions. Each function does nothing; its contract is the law.
 
-ghost use Rattle.std.specs.Prelude.{◌≡◌, ℕ, Bool, Option};
+ghost use Rattle.std.specs.Prelude.{◌≡◌, ◌↔◌, ℕ, Bool, Option, None};
 ghost use Rattle.cn_base.specs.Cidr.{Cidr};
 ghost use Rattle.cn_base.specs.declared.ids.DeviceId.{DeviceId};
 ghost use Rattle.cn_base.specs.declared.route.Choice.{Choice};
@@ -8,7 +8,8 @@ ghost use Rattle.cn_base.specs.declared.route.Route.{Route};
 ghost use Rattle.cn_net.specs.Boundary.{AgreeInside, IsBounded, IsStableInside, NoForeignOffer, OutsideAsRecorded, RoutesCross};
 ghost use Rattle.cn_net.specs.Candidates.{IsBest, best_of};
 ghost use Rattle.cn_net.specs.Certificate.{IsCertified};
-ghost use Rattle.cn_net.specs.Drafted.{draft_of};
+ghost use Rattle.cn_net.specs.Drafted.{StandsForOne, draft_of};
+ghost use Rattle.cn_net.specs.Faults.{fault_of};
 ghost use Rattle.cn_net.specs.Islands.{IsFitting, IsIslands};
 ghost use Rattle.cn_net.specs.Network.{Network, IsDevice};
 ghost use Rattle.cn_net.specs.OneState.{HasOneStableState, HasOneStableStateFor, RoundsAgree};
@@ -16,10 +17,16 @@ ghost use Rattle.cn_net.specs.Records.{AreSound, SaysItsOwn};
 ghost use Rattle.cn_net.specs.Restriction.{restricted};
 ghost use Rattle.cn_net.specs.Stable.{Assignment};
 ghost use Rattle.cn_net.specs.Valid.{IsValid};
+ghost use Rattle.cn_net.specs.declared.draft.Draft.{Draft};
 
 /// A draft stands for at most one valid network.
 pub fn draft_is_of_one_network()
     ensures { (x y : Network) → IsValid x → IsValid y → draft_of x ≡ draft_of y → x ≡ y }
+{}
+
+/// A draft has no fault exactly where a valid network reads as it.
+pub fn faultless_drafts()
+    ensures { (draft : Draft) → (fault_of draft ≡ None) ↔ StandsForOne draft }
 {}
 
 /// A network's islands have one labelling: two that meet the definition agree on all devices.

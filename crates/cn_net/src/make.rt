@@ -1,9 +1,10 @@
 //! The parts of a network that is made of a draft: its devices as they are written, and its links with
 //! numbers in place of names. What may not stand twice among the devices is tried in `repeat.rt`.
 
-ghost use Rattle.std.specs.Prelude.{◌≡◌, ◌<◌, ◌≤◌, length, map, OnOk, IfOk, IfErr};
-ghost use Rattle.cn_net.specs.Drafted.{IfFault};
-ghost use Rattle.cn_net.specs.Ends.{AreJoined, JoinsNew, ends_between};
+ghost use Rattle.std.specs.Prelude.{◌≡◌, ◌<◌, ◌≤◌, length, map, IfOk};
+ghost use Rattle.std.specs.List.{list_any};
+ghost use Rattle.cn_net.specs.Ends.{ends_between, same_pair};
+ghost use Rattle.cn_net.specs.Faults.{TellsFirst, first_in, join_fault, link_fault, parts_fault, unknown_fault};
 ghost use Rattle.cn_net.specs.Kept.{AreNamesOf, names_of};
 ghost use Rattle.cn_net.specs.Numbered.{device_made, link_made, place_of, texts};
 
@@ -27,8 +28,7 @@ pub struct Ends {
 
 /// Tries the numbers of devices and of links.
 pub fn few_parts(devices: usize, links: usize) -> Result<(), NetAnswer>
-    ensures ok { OnOk result ((devices ≤ 4096) × (links ≤ 16384)) }
-    ensures fault { IfErr result (IfFault (devices ≤ 4096 → links ≤ 16384 → ⊥)) }
+    ensures { TellsFirst (parts_fault devices links) result }
 {
     if devices > MOST_DEVICES {
         return Err(NetAnswer::Fault(NetFault::TooMany {
@@ -74,7 +74,7 @@ pub fn copied_devices(alloc: Global, devices: &[DeviceDraft]) -> Result<Vec<Devi
 fn number_of(alloc: Global, names: &IndexSet<String>, name: &Name) -> Result<DeviceId, NetAnswer>
     requires { length names.now.keys ≤ 4096 }
     ensures ok { IfOk result (λ d. (d.0 ≡ place_of (texts names.now.keys) name.now) × (d.0 < length names.now.keys)) }
-    ensures fault { IfErr result (IfFault (place_of (texts names.now.keys) name.now ≡ length names.now.keys)) }
+    ensures first { TellsFirst (unknown_fault (texts names.now.keys) name.now) result }
 {
     match names.get_index_of(name.text()) {
         Some(place) => Ok(DeviceId(place as u32)),
@@ -105,8 +105,7 @@ fn ends_of(link: &Link) -> Ends
 fn joins_new(devices: &[Device], before: &IndexSet<Ends>, link: &Link) -> Result<(), NetAnswer>
     requires a { link.now.a.0 < length devices.now }
     requires b { link.now.b.0 < length devices.now }
-    ensures ok { OnOk result (JoinsNew devices.now before.now.keys link.now) }
-    ensures fault { IfErr result (IfFault (JoinsNew devices.now before.now.keys link.now → ⊥)) }
+    ensures { TellsFirst (join_fault devices.now (list_any (same_pair (ends_between link.now)) before.now.keys) link.now) result }
 {
     let Link { a, b, .. } = *link;
     if a == b {
@@ -131,8 +130,7 @@ pub fn joined_links(
     requires few { length devices.now ≤ 4096 }
     requires named { AreNamesOf devices.now names.now.keys }
     ensures made { IfOk result (λ v. v.items ≡ map (link_made (names_of devices.now)) links.now) }
-    ensures joined { IfOk result (λ v. AreJoined devices.now v.items) }
-    ensures fault { IfErr result (IfFault (AreJoined devices.now (map (link_made (names_of devices.now)) links.now) → ⊥)) }
+    ensures first { TellsFirst (first_in (link_fault devices.now) links.now) result }
 {
     let mut joined = Vec::with_capacity(alloc, links.len())?;
     let mut before = IndexSet::new(alloc);

@@ -5,6 +5,7 @@ ghost use Rattle.std.specs.List.{AllPairs, Any};
 ghost use Rattle.std.specs.Option.{option_copied};
 ghost use Rattle.cn_base.specs.declared.ids.DeviceId.{DeviceId};
 ghost use Rattle.cn_net.specs.Drafted.{IfFault, StandsForNone, draft_of};
+ghost use Rattle.cn_net.specs.Faults.{TellsFirst, fault_of};
 ghost use Rattle.cn_net.specs.Neighbours.{TellsOfLink};
 ghost use Rattle.cn_net.specs.Network.{IsDevice, IsLinked, asn_of, device_of, link_between, name_of, own_origin, peers_of, router_of};
 ghost use Rattle.cn_net.specs.Valid.{IsValid};
@@ -42,13 +43,14 @@ impl Model for Net {
 
 impl Net {
     /// The network that a draft stands for. A fault comes exactly where the draft stands for no valid
-    /// network. These are tried in order, and the first that is met is the fault: too many devices, or
-    /// links; for each device in order, a name or a router id that an earlier device has, or a prefix
-    /// that its list repeats; too many prefixes, each counted once; for each link in order, an end that
+    /// network, and it is the first in this order (`specs/Faults.antt`): too many devices, or links; for
+    /// each device in order, a name or a router id that an earlier device has, or a prefix that its list
+    /// repeats; too many prefixes, each counted once; for each link in order, a first or a second end that
     /// is unknown, one device at both ends, the ends of an earlier link, or two equal AS numbers.
     pub fn make(alloc: Global, draft: &Draft) -> Result<Net, NetAnswer>
         ensures ok { IfOk result (λ net. draft_of net ≡ draft.now) }
         ensures fault { IfErr result (IfFault (StandsForNone draft.now)) }
+        ensures first { TellsFirst (fault_of draft.now) result }
     {
         few_parts(draft.devices.len(), draft.links.len())?;
         let devices = copied_devices(alloc, draft.devices.items())?;

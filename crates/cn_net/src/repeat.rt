@@ -1,14 +1,12 @@
 //! What may not stand twice: the names and router ids of devices, and the prefixes of one device. The
 //! distinct prefixes of all devices are counted here too.
 
-ghost use Rattle.std.specs.Prelude.{◌≡◌, ◌≤◌, ◌||◌, true, length, map, OnOk, IfOk, IfErr, MatchOption};
-ghost use Rattle.std.specs.List.{IsDistinct, list_any};
-ghost use Rattle.std.specs.Str.{bytes_eq};
+ghost use Rattle.std.specs.Prelude.{◌≡◌, ◌≤◌, ◌||◌, ◌++◌, ◌∷◌, [], length, map, OnOk, IfOk};
+ghost use Rattle.std.specs.List.{list_any};
 ghost use Rattle.cn_base.specs.Cidr.{Cidr, same_prefix};
-ghost use Rattle.cn_net.specs.Drafted.{IfFault};
+ghost use Rattle.cn_net.specs.Faults.{TellsFirst, device_fault, first_in, first_repeat, id_fault, name_fault, prefixes_fault};
 ghost use Rattle.cn_net.specs.Kept.{AreNamesOf};
-ghost use Rattle.cn_net.specs.Numbered.{AreDistinct, AreFew, IsPushed, texts};
-ghost use Rattle.cn_net.specs.Valid.{same_router};
+ghost use Rattle.cn_net.specs.Numbered.{texts};
 
 use crate::device::{Device, Own};
 use crate::fault::{NetAnswer, NetFault, What};
@@ -20,8 +18,8 @@ const MOST_PREFIXES: usize = 16384;
 
 /// Puts a name behind those of the devices before, which all have others.
 fn add_name(alloc: Global, names: &mut IndexSet<String>, name: &Name) -> Result<(), NetAnswer>
-    ensures ok { OnOk result (IsPushed bytes_eq (texts names.old.keys) name.now (texts names.new.keys)) }
-    ensures fault { IfErr result (IfFault (list_any (bytes_eq name.now) (texts names.old.keys) ≡ true)) }
+    ensures ok { OnOk result (texts names.new.keys ≡ texts names.old.keys ++ name.now ∷ []) }
+    ensures first { TellsFirst (name_fault (texts names.old.keys) name.now) result }
 {
     let is_new = names.insert(String::from_str(alloc, name.text())?)?;
     if !is_new {
@@ -34,8 +32,8 @@ fn add_name(alloc: Global, names: &mut IndexSet<String>, name: &Name) -> Result<
 /// Puts the router id of a device behind those of the devices before, which all have others.
 fn add_id(ids: &mut IndexSet<RouterId>, device: DeviceId, id: RouterId) -> Result<(), NetAnswer>
     requires { length ids.old.keys ≤ 4096 }
-    ensures ok { OnOk result (IsPushed same_router ids.old.keys id ids.new.keys) }
-    ensures fault { IfErr result (IfFault (list_any (same_router id) ids.old.keys ≡ true)) }
+    ensures ok { OnOk result (ids.new.keys ≡ ids.old.keys ++ id ∷ []) }
+    ensures first { TellsFirst (id_fault ids.old.keys device id) result }
 {
     let (earlier, is_new) = ids.insert_full(id)?;
     if !is_new {
@@ -47,7 +45,7 @@ fn add_id(ids: &mut IndexSet<RouterId>, device: DeviceId, id: RouterId) -> Resul
 
 /// The first prefix that stands in the list a second time.
 fn repeated(alloc: Global, own: &[Own]) -> Result<Option<Prefix>, AllocError>
-    ensures { IfOk result (λ r. MatchOption r (IsDistinct same_prefix (map (λ o. o.prefix) own.now)) (λ _. IsDistinct same_prefix (map (λ o. o.prefix) own.now) → ⊥)) }
+    ensures { IfOk result (λ r. r ≡ first_repeat (map (λ o. o.prefix) own.now)) }
 {
     let mut before = IndexSet::new(alloc);
     for one in own {
@@ -62,8 +60,8 @@ fn repeated(alloc: Global, own: &[Own]) -> Result<Option<Prefix>, AllocError>
 /// device's list repeats a prefix.
 pub fn distinct_devices(alloc: Global, devices: &[Device]) -> Result<IndexSet<String>, NetAnswer>
     requires { length devices.now ≤ 4096 }
-    ensures ok { IfOk result (λ names. AreNamesOf devices.now names.keys × AreDistinct devices.now) }
-    ensures fault { IfErr result (IfFault (AreDistinct devices.now → ⊥)) }
+    ensures ok { IfOk result (λ names. AreNamesOf devices.now names.keys) }
+    ensures first { TellsFirst (first_in device_fault devices.now) result }
 {
     let mut names = IndexSet::new(alloc);
     let mut ids = IndexSet::new(alloc);
@@ -93,8 +91,7 @@ fn add_prefixes(prefixes: &mut IndexSet<Prefix>, own: &[Own]) -> Result<(), Allo
 
 /// Tries the number of distinct prefixes.
 pub fn few_prefixes(alloc: Global, devices: &[Device]) -> Result<(), NetAnswer>
-    ensures ok { OnOk result (AreFew devices.now) }
-    ensures fault { IfErr result (IfFault (AreFew devices.now → ⊥)) }
+    ensures { TellsFirst (prefixes_fault devices.now) result }
 {
     let mut prefixes = IndexSet::new(alloc);
     for device in devices {

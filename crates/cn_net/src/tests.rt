@@ -282,6 +282,108 @@ fn faults_of_links(rt: HostRuntime) -> Result<(), Fail> {
     Ok(())
 }
 
+// The fault where a sixth device has this name, this router id and this prefix beside another, a seventh this
+// name, and two more links these ends.
+fn fault_of_seven(
+    alloc: Global,
+    sixth: (&str, u32, u32),
+    seventh: &str,
+    ends: [(&str, &str); 2],
+) -> Result<String, Fail> {
+    let (text, id, p) = sixth;
+    let own = owned(alloc, &[p, 0x0A01_0400])?;
+    let mut devices = five_devices(alloc)?;
+    devices.push(device(alloc, text, 1, 65103, id, own)?)?;
+    let own = owned(alloc, &[0x0A01_0500])?;
+    devices.push(device(alloc, seventh, 1, 65104, 0x0A00_0004, own)?)?;
+    let mut links = six_links(alloc)?;
+    let [first, second] = ends;
+    links.push(link(alloc, first.0, first.1, true)?)?;
+    links.push(link(alloc, second.0, second.1, true)?)?;
+    fault_of(alloc, devices, links)
+}
+
+// Two faults, and the one that stands first.
+#[test]
+fn first_of_two_faults(rt: HostRuntime) -> Result<(), Fail> {
+    let alloc = rt.alloc();
+    let good = ("t3", 0x0A00_0003u32, 0x0A01_0300u32);
+    let twice = ("t3", 0x0A00_0003, 0x0A01_0400);
+    for (sixth, seventh, ends, want) in [
+        (good, "t4", [("t3", "l1"), ("t4", "l1")], "none"),
+        (
+            ("l2", 0x0A00_0001, 0x0A01_0300),
+            "t4",
+            [("t3", "l1"), ("t4", "l1")],
+            "Fault(DuplicateName { name: Name { text: \"l2\" } })",
+        ),
+        (
+            ("t3", 0x0A00_0101, 0x0A01_0400),
+            "t4",
+            [("t3", "l1"), ("t4", "l1")],
+            "Fault(DuplicateId { a: DeviceId(2), b: DeviceId(5) })",
+        ),
+        (
+            ("t3", 0x0A00_0101, 0x0A01_0300),
+            "t1",
+            [("t3", "l1"), ("t4", "l1")],
+            "Fault(DuplicateId { a: DeviceId(2), b: DeviceId(5) })",
+        ),
+        (
+            twice,
+            "t1",
+            [("t3", "l1"), ("t4", "l1")],
+            "Fault(DuplicateOwn { device: DeviceId(5), prefix: Prefix { bits: 167838720, len: 24 } })",
+        ),
+        (
+            good,
+            "t1",
+            [("t9", "l1"), ("t4", "l1")],
+            "Fault(DuplicateName { name: Name { text: \"t1\" } })",
+        ),
+        (
+            twice,
+            "t4",
+            [("t1", "t1"), ("t4", "l1")],
+            "Fault(DuplicateOwn { device: DeviceId(5), prefix: Prefix { bits: 167838720, len: 24 } })",
+        ),
+        (
+            good,
+            "t4",
+            [("t9", "t8"), ("t4", "l1")],
+            "Fault(UnknownName { name: Name { text: \"t9\" } })",
+        ),
+        (
+            good,
+            "t4",
+            [("t1", "t9"), ("t8", "l1")],
+            "Fault(UnknownName { name: Name { text: \"t9\" } })",
+        ),
+        (
+            good,
+            "t4",
+            [("t4", "t4"), ("t9", "l1")],
+            "Fault(SelfLink { device: DeviceId(6) })",
+        ),
+        (
+            good,
+            "t4",
+            [("l1", "t1"), ("t4", "t4")],
+            "Fault(DuplicateLink { a: DeviceId(2), b: DeviceId(0) })",
+        ),
+        (
+            good,
+            "t4",
+            [("l1", "l2"), ("l2", "l1")],
+            "Fault(SameAs { a: DeviceId(2), b: DeviceId(3) })",
+        ),
+    ] {
+        let told = fault_of_seven(alloc, sixth, seventh, ends)?;
+        assert_eq!(rt; told.as_str(), want);
+    }
+    Ok(())
+}
+
 // As many devices, with as many prefixes each that no other has.
 fn many_devices(alloc: Global, count: u32, each: u32) -> Result<Vec<DeviceDraft>, Fail> {
     let mut devices = Vec::new(alloc);
@@ -311,7 +413,8 @@ fn many_links(alloc: Global, count: usize) -> Result<Vec<LinkDraft>, Fail> {
     Ok(links)
 }
 
-// Numbers of devices, of prefixes of each and of links, and the fault.
+// Numbers of devices, of prefixes of each and of links, and the fault. The last three rows have too many of
+// each; too many prefixes, and a link of a device that isn't there; and that link alone.
 #[test]
 fn limits(rt: HostRuntime) -> Result<(), Fail> {
     let alloc = rt.alloc();
@@ -329,6 +432,24 @@ fn limits(rt: HostRuntime) -> Result<(), Fail> {
             5,
             0,
             "Fault(TooMany { what: Prefixes, count: 16385 })",
+        ),
+        (
+            4097,
+            5,
+            16385,
+            "Fault(TooMany { what: Devices, count: 4097 })",
+        ),
+        (
+            100,
+            164,
+            4951,
+            "Fault(TooMany { what: Prefixes, count: 16400 })",
+        ),
+        (
+            100,
+            1,
+            4951,
+            "Fault(UnknownName { name: Name { text: \"d100\" } })",
         ),
     ] {
         let drafts = many_devices(alloc, devices, each)?;

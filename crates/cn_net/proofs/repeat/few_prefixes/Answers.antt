@@ -4,6 +4,8 @@ use Rattle.std.specs.Set.{distinct_count}
 use Rattle.std.proofs.lemmas.Map.Made.{length-from_keys}
 use Rattle.cn_base.specs.Cidr.{Cidr, same_prefix}
 use Rattle.cn_net.specs.declared.device.Device.{Device}
+use Rattle.cn_net.specs.declared.fault.What.TheVariants.{Prefixes}
+use Rattle.cn_net.proofs.Finding.{few_enough, too_many}
 use Rattle.cn_net.proofs.Keys.{equivalence, same_prefix-Decides}
 use Rattle.cn_net.proofs.repeat.few_prefixes.Goals as goal
 
@@ -13,10 +15,12 @@ counted keys devices n distinct all same =
     length-from_keys (equivalence same_prefix same_prefix-Decides) keys (flat_map (λ d. map (λ o. o.prefix) d.body.own) devices) distinct
     (λ q. same q ∙ ap (λ ds. list_any (same_prefix q) (flat_map (λ d. map (λ o. o.prefix) d.body.own) ds)) all')
 
-pub returns-then-len-gt-MOST_PREFIXES-clause-fault : goal.returns-then-len-gt-MOST_PREFIXES-clause-fault
-returns-then-len-gt-MOST_PREFIXES-clause-fault c =
-    λ few. omega (arith, few, c.len.ensures.len, counted c.loop-device.prefixes.keys c.args.devices.now c.loop-device.device-index c.len.ensures.unique (omega arith) c.loop-device.invariant)
+pub returns-then-len-gt-MOST_PREFIXES : goal.returns-then-len-gt-MOST_PREFIXES
+returns-then-len-gt-MOST_PREFIXES c =
+    let many = counted c.loop-device.prefixes.keys c.args.devices.now c.loop-device.device-index c.len.ensures.unique (omega arith) c.loop-device.invariant in
+    too_many Prefixes 16384 c.len-then-len-gt-MOST_PREFIXES.result (distinct_count same_prefix (flat_map (λ d. map (λ o. o.prefix) d.body.own) c.args.devices.now)) (omega arith) (omega arith)
 
-pub returns-clause-ok : goal.returns-clause-ok
-returns-clause-ok c =
-    omega (arith, c.len.ensures.len, counted c.loop-device.prefixes.keys c.args.devices.now c.loop-device.device-index c.len.ensures.unique (omega arith) c.loop-device.invariant)
+pub returns : goal.returns
+returns c =
+    let many = counted c.loop-device.prefixes.keys c.args.devices.now c.loop-device.device-index c.len.ensures.unique (omega arith) c.loop-device.invariant in
+    few_enough Prefixes 16384 c.len.result (distinct_count same_prefix (flat_map (λ d. map (λ o. o.prefix) d.body.own) c.args.devices.now)) (omega arith) (omega arith)
