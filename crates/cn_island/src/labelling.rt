@@ -1,65 +1,78 @@
-//! Labels by plain relabelling: a link after another, the lesser label of its ends in place of the greater.
+//! Labels by following links: each island is searched from its least device, and each device is looked at once.
 
-ghost use Rattle.std.specs.Prelude.{◌≡◌, ◌<◌, ◌^◌, length, map, IfOk};
-ghost use Rattle.cn_base.specs.declared.ids.DeviceId.{DeviceId as DeviceNumber};
-ghost use Rattle.cn_island.specs.Merge.{joined, relabelled, starting};
+ghost use Rattle.std.specs.Prelude.{◌≡◌, ◌+◌, ◌<◌, None, false, true, IfOk, length};
+ghost use Rattle.cn_island.specs.Found.{IsFound, IsNext, IsSearched, IsSpread};
 ghost use Rattle.cn_net.specs.Islands.{IsIslands, label_of, outside_of};
 
 use cn_base::DeviceId;
-use cn_net::{DeviceSet, Labels, Link, Net};
+use cn_net::{DeviceSet, Labels, Net};
 use std::alloc::{AllocError, Global};
 
-/// The label, with one number in place of another.
-fn renamed(label: Option<DeviceId>, from: DeviceId, to: DeviceId) -> Option<DeviceId>
-    ensures { result ≡ relabelled from to label }
+/// Gives a device the label of an island, unless it has one.
+fn label(
+    labels: &mut [Option<DeviceId>],
+    found: &mut Vec<DeviceId>,
+    d: DeviceId,
+    island: DeviceId,
+) -> Result<(), AllocError>
+    requires device { d.0 < length labels.old }
+    requires found { IsFound labels.old found.old.items }
+    ensures found { IfOk result (λ _. IsFound labels.new found.new.items) }
+    ensures spread { IfOk result (λ _. IsSpread (λ x. x ≡ d) island labels.old labels.new found.old.items found.new.items) }
 {
-    match label {
-        Some(number) => { if number == from { Some(to) } else { label } }
-        None => None,
+    let place = d.0 as usize;
+    if labels[place].is_none() {
+        found.push(d)?;
+        labels[place] = Some(island);
     }
+    Ok(())
 }
 
-/// Puts one number in place of another in all labels.
-fn relabel(labels: &mut [Option<DeviceId>], from: DeviceId, to: DeviceId)
-    ensures { labels.new ≡ map (relabelled from to) labels.old }
+/// Gives each outside device that is linked to `d` the label of an island, unless it has one.
+fn label_neighbours(
+    net: &Net,
+    emulated: &DeviceSet,
+    labels: &mut [Option<DeviceId>],
+    found: &mut Vec<DeviceId>,
+    d: DeviceId,
+    island: DeviceId,
+) -> Result<(), AllocError>
+    requires size { length labels.old ≡ length net.now.devices }
+    requires found { IsFound labels.old found.old.items }
+    ensures found { IfOk result (λ _. IsFound labels.new found.new.items) }
+    ensures spread { IfOk result (λ _. IsSpread (IsNext net.now (outside_of emulated.now) d) island labels.old labels.new found.old.items found.new.items) }
 {
-    for label in labels.iter_mut() {
-        *label = renamed(*label, from, to);
-    }
-}
-
-/// Gives all devices with the label of an end of the link the lesser of the two ends' labels.
-fn join(labels: &mut [Option<DeviceId>], link: &Link)
-    requires a { link.now.a.0 < length labels.old }
-    requires b { link.now.b.0 < length labels.old }
-    ensures { labels.new ≡ joined link.now labels.old }
-{
-    let a = labels[link.a.0 as usize];
-    let b = labels[link.b.0 as usize];
-    if let (Some(x), Some(y)) = (a, b) {
-        if x < y {
-            relabel(labels, y, x);
-        } else if y < x {
-            relabel(labels, x, y);
+    net.valid();
+    for n in net.neighbours(d) {
+        if !emulated.holds(n.device) {
+            label(labels, found, n.device, island)?;
         }
     }
+    Ok(())
 }
 
-/// The labels before any link is read: each outside device has its own number.
-fn start(
-    alloc: Global,
-    count: u32,
+/// Labels the island of an outside device without a label, all of whose lesser outside devices have one.
+fn label_island(
+    net: &Net,
     emulated: &DeviceSet,
-) -> Result<Vec<Option<DeviceId>>, AllocError>
-    ensures length { IfOk result (λ v. length v.items ≡ count) }
-    ensures labels { IfOk result (λ v. (d : DeviceNumber) → label_of v.items d ≡ starting (outside_of emulated.now) count d) }
+    labels: &mut [Option<DeviceId>],
+    found: &mut Vec<DeviceId>,
+    root: DeviceId,
+) -> Result<(), AllocError>
+    requires device { root.0 < length net.now.devices }
+    requires outside { outside_of emulated.now root ≡ true }
+    requires searched { IsSearched net.now (outside_of emulated.now) labels.old found.old.items (length found.old.items) root.0 }
+    ensures { IfOk result (λ _. IsSearched net.now (outside_of emulated.now) labels.new found.new.items (length found.new.items) (root.0 + 1)) }
 {
-    let mut labels = Vec::new(alloc);
-    for i in 0..count {
-        let d = DeviceId(i);
-        labels.push(if emulated.holds(d) { None } else { Some(d) })?;
+    net.valid();
+    let mut next = found.len();
+    label(labels, found, root, root)?;
+    while next < found.len() {
+        let d = found[next];
+        label_neighbours(net, emulated, labels, found, d, root)?;
+        next += 1;
     }
-    Ok(labels)
+    Ok(())
 }
 
 /// The labels of the islands: each device that isn't emulated has the number of the least device that
@@ -68,10 +81,14 @@ fn start(
 pub fn islands(alloc: Global, net: &Net, emulated: &DeviceSet) -> Result<Labels, AllocError>
     ensures { IfOk result (λ labels. IsIslands net.now (outside_of emulated.now) (label_of labels)) }
 {
-    net.valid();
-    let mut labels = start(alloc, net.count(), emulated)?;
-    for link in net.links() {
-        join(&mut labels, link);
+    let count = net.count();
+    let mut labels = vec![in alloc; None; count as usize]?;
+    let mut found = Vec::new(alloc);
+    for i in 0..count {
+        let root = DeviceId(i);
+        if !emulated.holds(root) && labels[i as usize].is_none() {
+            label_island(net, emulated, &mut labels, &mut found, root)?;
+        }
     }
     Ok(Labels::make(labels))
 }

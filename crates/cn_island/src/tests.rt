@@ -1,6 +1,8 @@
+ghost use Rattle.std.specs.Prelude.{◌≤◌};
+
 use super::*;
 use cn_base::{Asn, DeviceId, Items, Name, RouterId};
-use cn_net::{BodyDraft, DeviceDraft, DeviceSet, Draft, LinkDraft, Net};
+use cn_net::{BodyDraft, DeviceDraft, DeviceSet, Draft, Link, LinkDraft, Net};
 use std::alloc::{AllocError, Global};
 use std::process::Abort;
 use std::test::Fail;
@@ -57,7 +59,46 @@ fn set(alloc: Global, net: &Net, numbers: &[u8]) -> Result<DeviceSet, AllocError
     Ok(DeviceSet::make(net, devices))
 }
 
-// The labels of all devices, in the order of their numbers.
+// The label at the number of a device.
+fn label_at(labels: &[Option<DeviceId>], d: DeviceId) -> Option<DeviceId> {
+    match labels.get(d.0 as usize) {
+        Some(label) => *label,
+        None => None,
+    }
+}
+
+// Puts the lesser label of the ends of a link in place of the greater.
+fn join(labels: &mut [Option<DeviceId>], link: &Link) {
+    let a = label_at(labels, link.a);
+    let b = label_at(labels, link.b);
+    if let (Some(x), Some(y)) = (a, b) {
+        let (low, high) = if x < y { (x, y) } else { (y, x) };
+        for label in labels.iter_mut() {
+            if *label == Some(high) {
+                *label = Some(low);
+            }
+        }
+    }
+}
+
+// The labels by plain relabelling, as the definition has them: one link after another.
+fn relabelled(
+    alloc: Global,
+    net: &Net,
+    emulated: &DeviceSet,
+) -> Result<Vec<Option<DeviceId>>, AllocError> {
+    let mut labels = Vec::new(alloc);
+    for i in 0..net.count() {
+        let d = DeviceId(i);
+        labels.push(if emulated.holds(d) { None } else { Some(d) })?;
+    }
+    for link in net.links() {
+        join(&mut labels, link);
+    }
+    Ok(labels)
+}
+
+// The labels of all devices, in the order of their numbers: those that plain relabelling gives.
 fn labels(
     rt: &impl Abort,
     alloc: Global,
@@ -72,6 +113,8 @@ fn labels(
     for i in 0..count {
         labels.push(found.of(DeviceId(u32::from(i))))?;
     }
+    let plain = relabelled(alloc, &net, &emulated)?;
+    assert_eq!(rt; labels.as_slice(), plain.as_slice());
     Ok(labels)
 }
 
@@ -100,6 +143,40 @@ fn island_labels(rt: HostRuntime) -> Result<(), Fail> {
     // Where all are emulated there are no labels.
     let none = labels(&rt, alloc, 2, &[(0, 1, true)], &[1, 0, 1])?;
     assert_eq!(rt; none.as_slice(), [None, None].as_slice());
+    Ok(())
+}
+
+// Sixty devices, each linked to those that stand so many places on.
+fn strides(alloc: Global, near: u8, far: u8) -> Result<Vec<(u8, u8, bool)>, AllocError>
+    requires near { near ≤ 60 }
+    requires far { far ≤ 60 }
+{
+    let mut links = Vec::new(alloc);
+    for i in 0..60 - near {
+        links.push((i, i + near, i % 2 == 0))?;
+    }
+    for i in 0..60 - far {
+        links.push((i + far, i, i % 3 == 0))?;
+    }
+    Ok(links)
+}
+
+// Following links gives the labels that plain relabelling gives.
+#[test]
+fn labels_as_by_relabelling(rt: HostRuntime) -> Result<(), Fail> {
+    let alloc = rt.alloc();
+    let cases: [(u8, u8, &[u8]); 5] = [
+        (7, 60, &[]),
+        (6, 15, &[0, 5, 17, 40]),
+        (12, 9, &[3, 4, 5, 20, 21, 22, 50]),
+        (59, 58, &[1]),
+        (4, 6, &[10, 11, 12, 13, 14, 15, 30, 32, 34, 36]),
+    ];
+    for (near, far, emulated) in cases {
+        let links = strides(alloc, near, far)?;
+        let found = labels(&rt, alloc, 60, &links, emulated)?;
+        assert_eq!(rt; found.len(), 60);
+    }
     Ok(())
 }
 
