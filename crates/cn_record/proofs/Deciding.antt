@@ -1,6 +1,5 @@
 -- What one more offer adds to a decision, and the decision of a device that looks at its neighbours alone.
-use Rattle.std.proofs.Common.{◌≡◌, ℕ, ◌+◌, ◌<◌, ◌≤◌, Bool, true, false, not, min, cond, List, [], ◌∷◌, length, get_or, is_some, Option, Some, None, unwrap_or, option_map, refl, sym, ap, ◌∙◌, inl, inr, arith}
-use Rattle.std.specs.Prelude.{option_and_then}
+use Rattle.std.proofs.Common.{◌≡◌, ℕ, ◌+◌, ◌<◌, ◌≤◌, Bool, true, false, not, min, cond, List, [], ◌∷◌, length, get_or, is_some, Option, Some, None, option_map, refl, sym, ap, ◌∙◌, arith}
 use Rattle.std.specs.List.{filter, fold}
 use Rattle.std.specs.Ordering.{bool_cmp, is_lt, nat_cmp, ordering_then}
 use Rattle.std.specs.declared.cmp.Ordering.{Ordering}
@@ -15,7 +14,7 @@ use Rattle.cn_base.specs.declared.ids.Origin.{Origin}
 use Rattle.cn_base.specs.declared.route.Choice.{Choice}
 use Rattle.cn_base.specs.declared.route.Route.{Route}
 use Rattle.cn_net.specs.Candidates.{best_of, better_of, choice_from, outranks, own_choice, rank_of, usable}
-use Rattle.cn_net.specs.Exchange.{accept, is_up, offer}
+use Rattle.cn_net.specs.Exchange.{accept, offer}
 use Rattle.cn_net.specs.Network.{Network, device_ids, is_linked, own_origin, peers_of, router_of}
 use Rattle.cn_net.specs.Stable.{offer_of, offers_to, route_of}
 use Rattle.cn_net.proofs.Chains.{linked_back}

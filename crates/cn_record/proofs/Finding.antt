@@ -1,15 +1,11 @@
 -- What differs of one prefix, and the first of what differs of all of them.
-use Rattle.std.proofs.Common.{◌≡◌, ℕ, zero, suc, ◌+◌, ◌<◌, ◌≤◌, ◌++◌, ◌⊎◌, ◌||◌, Bool, true, false, cond, List, [], ◌∷◌, length, get_or, set, map, take, nat_lt, Option, Some, None, Less, refl, sym, ap, subst, ◌∙◌, inl, inr, arith}
+use Rattle.std.proofs.Common.{◌≡◌, ℕ, ◌+◌, ◌<◌, ◌≤◌, ◌++◌, ◌⊎◌, true, false, List, [], ◌∷◌, length, get_or, map, take, nat_lt, Option, Some, None, Less, sym, ap, subst, ◌∙◌, inl, inr, arith}
 use Rattle.std.specs.Prelude.{All, Contains, MatchOption}
-use Rattle.std.specs.List.{filter}
-use Rattle.std.specs.List.Sorted.{IsNonDecreasingBy, IsStrictlySortedBy}
-use Rattle.std.specs.Ordering.{is_lt, on}
-use Rattle.std.proofs.lemmas.Bool.{cases_Bool, cases_eq, cases_lt, cond-false, cond-true, ltb-false, ltb-true, or_cases}
+use Rattle.std.specs.Ordering.{on}
+use Rattle.std.proofs.lemmas.Bool.{cases_Bool, cases_lt, cond-false, cond-true, ltb-false, ltb-true}
 use Rattle.std.proofs.lemmas.Bool.Decides.{nat_tests}
 use Rattle.std.proofs.lemmas.List.{get_or-take, get_or_default, length-take-le, take_more}
-use Rattle.std.proofs.lemmas.List.Elements.{All-contains, All-push, All-take, Contains-append_left, Contains-get_or, Contains-push, Contains-push_cases, filter_passes}
-use Rattle.std.proofs.lemmas.List.Kept.{IsSortedBy-filter}
-use Rattle.std.proofs.lemmas.List.Sorted.{ranks_by, sorted_far}
+use Rattle.std.proofs.lemmas.List.Elements.{All-contains, All-push, All-take, Contains-append_left, Contains-push, Contains-push_cases}
 use Rattle.std.proofs.lemmas.Map.Keys.{Less-from_sorted}
 use Rattle.std.proofs.lemmas.Option.{same_Some}
 use Rattle.cn_base.specs.Cidr.{Cidr}
@@ -17,20 +13,19 @@ use Rattle.cn_base.specs.Table.{prefix_cmp}
 use Rattle.cn_base.specs.declared.ids.DeviceId.{DeviceId}
 use Rattle.cn_base.specs.declared.route.Choice.{Choice}
 use Rattle.cn_net.specs.Islands.{holds_device, label_of, outside_of}
-use Rattle.cn_net.specs.Network.{Network, IsDevice, same_device}
+use Rattle.cn_net.specs.Network.{IsDevice}
 use Rattle.cn_net.specs.OneState.{HasOneStableState}
 use Rattle.cn_net.specs.Opening.{IsOpening, Opening}
 use Rattle.cn_net.specs.Records.{IsOfIsland}
 use Rattle.cn_net.specs.Restriction.{restricted}
 use Rattle.cn_net.specs.Stable.{Assignment}
 use Rattle.cn_net.proofs.Apart.{distinct_ids}
-use Rattle.cn_net.proofs.Members.{contained, held, same_number}
 use Rattle.cn_net.proofs.Restricted.{distinct_restricted}
 use Rattle.cn_net.proofs.States.{has_one_state}
-use Rattle.cn_record.specs.Differing.{AgreesAt, AgreesFor, IsEmptyTable, IsFirstAmong, IsFirstFor, TellsApart, TellsUnsound, earlier_of, is_behind}
+use Rattle.cn_record.specs.Differing.{AgreesAt, AgreesFor, IsFirstAmong, IsFirstFor, TellsApart, earlier_of, is_behind}
 use Rattle.cn_record.specs.Grouped.{AreIslandPrefixes, AreOfIsland, of_island}
 use Rattle.cn_record.specs.Recorded.{SaysSound}
-use Rattle.cn_record.specs.Rows.{StandsBefore, pair_cmp, row_for}
+use Rattle.cn_record.specs.Rows.{StandsBefore, row_for}
 use Rattle.cn_record.specs.Said.{said_by}
 use Rattle.cn_record.specs.Tables.{IsSettled, held_of}
 use Rattle.cn_record.specs.Unsound.{IsFirstUnsound, IsOutsideState, IsUnsound}

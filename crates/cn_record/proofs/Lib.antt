@@ -7,6 +7,7 @@ pub mod Members
 pub mod Pairs
 pub mod Saying
 pub mod Settling
+pub mod Numbers
 pub mod Parts
 pub mod Sorting
 pub mod Turns

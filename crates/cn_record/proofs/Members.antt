@@ -1,46 +1,27 @@
 -- The devices of one island among all members, and a table that is cleared.
-use Rattle.std.proofs.Common.{◌≡◌, ℕ, zero, suc, ◌+◌, ◌<◌, ◌≤◌, ◌++◌, ◌⊎◌, ◌||◌, Bool, true, false, cond, List, [], ◌∷◌, length, get_or, set, map, take, nat_lt, Option, Some, None, Less, refl, sym, ap, subst, ◌∙◌, inl, inr, arith}
-use Rattle.std.specs.Prelude.{All, Contains, MatchOption}
+use Rattle.std.proofs.Common.{◌≡◌, zero, suc, ◌<◌, ◌≤◌, ◌⊎◌, ◌||◌, Bool, true, false, cond, List, [], ◌∷◌, length, get_or, set, map, Option, Some, None, refl, sym, ap, subst, ◌∙◌, inl, inr, arith}
+use Rattle.std.specs.Prelude.{All, Contains}
 use Rattle.std.specs.List.{filter}
-use Rattle.std.specs.List.Sorted.{IsNonDecreasingBy, IsStrictlySortedBy}
-use Rattle.std.specs.Ordering.{is_lt, on}
-use Rattle.std.proofs.lemmas.Bool.{cases_Bool, cases_eq, cases_lt, cond-false, cond-true, leb-true, ltb-false, ltb-true, or_cases}
+use Rattle.std.specs.List.Sorted.{IsNonDecreasingBy}
+use Rattle.std.specs.Ordering.{is_lt}
+use Rattle.std.proofs.lemmas.Bool.{cases_Bool, cases_eq, cond-true, leb-true, or_cases}
 use Rattle.std.proofs.lemmas.Bool.Decides.{nat_tests}
-use Rattle.std.proofs.lemmas.List.{get_or-map, get_or-set_other, get_or-set_same, get_or_default, length-map, length-set, take_more}
-use Rattle.std.proofs.lemmas.List.Elements.{All-contains, All-filter, All-push, Contains-append_left, Contains-get_or, Contains-push, Contains-push_cases, filter_passes}
+use Rattle.std.proofs.lemmas.List.{get_or-map, get_or-set_other, get_or-set_same, get_or_default, length-map, length-set}
+use Rattle.std.proofs.lemmas.List.Elements.{All-contains, All-filter, filter_passes}
 use Rattle.std.proofs.lemmas.List.Kept.{IsSortedBy-filter}
 use Rattle.std.proofs.lemmas.List.Sorted.{ranks_by, sorted_far}
-use Rattle.std.proofs.lemmas.Map.Keys.{Less-from_sorted}
-use Rattle.std.proofs.lemmas.Option.{same_Some}
 use Rattle.cn_base.specs.Cidr.{Cidr}
-use Rattle.cn_base.specs.Table.{prefix_cmp}
 use Rattle.cn_base.specs.declared.ids.DeviceId.{DeviceId}
 use Rattle.cn_base.specs.declared.route.Choice.{Choice}
-use Rattle.cn_net.specs.Islands.{holds_device, label_of, outside_of}
+use Rattle.cn_net.specs.Islands.{holds_device}
 use Rattle.cn_net.specs.Network.{Network, IsDevice, same_device}
-use Rattle.cn_net.specs.OneState.{HasOneStableState}
-use Rattle.cn_net.specs.Opening.{IsOpening, Opening}
-use Rattle.cn_net.specs.Records.{IsOfIsland}
-use Rattle.cn_net.specs.Restriction.{restricted}
-use Rattle.cn_net.specs.Stable.{Assignment}
-use Rattle.cn_net.proofs.Apart.{distinct_ids}
 use Rattle.cn_net.proofs.Members.{contained, held, same_number}
-use Rattle.cn_net.proofs.Restricted.{distinct_restricted}
-use Rattle.cn_net.proofs.States.{has_one_state}
-use Rattle.cn_record.specs.Differing.{AgreesAt, AgreesFor, IsEmptyTable, IsFirstAmong, IsFirstFor, TellsApart, TellsUnsound, cleared, earlier_of, is_behind}
-use Rattle.cn_record.specs.Grouped.{AreIslandPrefixes, AreMembers, AreOfIsland, IsByIsland, is_member, member_cmp, of_island}
-use Rattle.cn_record.specs.Recorded.{SaysSound}
-use Rattle.cn_record.specs.Rows.{StandsBefore, pair_cmp, row_for}
-use Rattle.cn_record.specs.Said.{said_by}
+use Rattle.cn_record.specs.Differing.{IsEmptyTable, cleared, is_behind}
+use Rattle.cn_record.specs.Grouped.{AreMembers, AreOfIsland, IsByIsland, is_member, member_cmp}
 use Rattle.cn_record.specs.Tables.{IsSettled, held_of}
-use Rattle.cn_record.specs.Unsound.{IsFirstUnsound, IsOutsideState, IsUnsound}
-use Rattle.cn_record.specs.declared.islands.IslandPrefix.{IslandPrefix}
 use Rattle.cn_record.specs.declared.islands.Member.{Member}
-use Rattle.cn_record.specs.declared.saved.Row.{Row}
 use Rattle.cn_record.specs.declared.soundness.Difference.{Difference}
-use Rattle.cn_record.proofs.Alone.{settled_alone}
 use Rattle.cn_record.proofs.Parts.{member_cmp_total}
-use Rattle.cn_record.proofs.Saying.{says_row}
 
 -- ---- the devices of one island
 

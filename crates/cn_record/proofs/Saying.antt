@@ -1,9 +1,9 @@
 -- What an outside device says is its rows for the prefixes of its island.
-use Rattle.std.proofs.Common.{◌≡◌, ℕ, ◌<◌, ◌≤◌, ◌&&◌, Bool, true, false, List, length, get_or, is_some, Option, Some, None, nat_lt, refl, sym, ap, subst, ◌∙◌, inl, inr, arith}
-use Rattle.std.specs.Prelude.{All, Contains, MatchOption}
+use Rattle.std.proofs.Common.{◌≡◌, ◌≤◌, ◌&&◌, Bool, true, false, List, length, is_some, Option, Some, None, nat_lt, refl, sym, ap, subst, ◌∙◌, inl, inr}
+use Rattle.std.specs.Prelude.{Contains, MatchOption}
 use Rattle.std.specs.List.{list_any}
 use Rattle.std.specs.Option.{option_eq}
-use Rattle.std.proofs.lemmas.Bool.{and_from, and_left, and_parts, cases_Bool, cond-false, cond-true, false_from_ne_true, le-ltb, lt-ltb, ltb-true, eqb-true, eq-eqb}
+use Rattle.std.proofs.lemmas.Bool.{and_from, and_left, and_parts, cases_Bool, cond-false, cond-true, false_from_ne_true, le-ltb, lt-ltb, ltb-true, eq-eqb}
 use Rattle.std.proofs.lemmas.Bool.Decides.{same_from_decides}
 use Rattle.std.proofs.lemmas.List.Elements.{All-contains}
 use Rattle.std.proofs.lemmas.List.Folds.{Any-from_list_any, list_any-from_Any}
@@ -104,6 +104,11 @@ module _ (net : Network) (label : DeviceId → Option DeviceId) (d : DeviceId) (
     | inl t ↦ originated_from t
     | inr f ↦ absurd (none-some c (sym (cond-false (island_originates net label d p) (row_for rows d p) None f) ∙ e))
   ]
+
+-- a device without an island says nothing
+pub says_none : (net : Network) (label : DeviceId → Option DeviceId) (d : DeviceId) (p : Cidr) (rows : List Row) → label d ≡ None → said net label rows d p ≡ None
+unfolding said
+says_none net label d p rows e = cond-false (island_originates net label d p) (row_for rows d p) None (sym (not_labelled net label d p (sym e)))
 
 pub says_own : (net : Network) (label : DeviceId → Option DeviceId) (rows : List Row) → SaysItsOwn net label (said net label rows)
 says_own net label rows d i p c is l e =

@@ -1,6 +1,6 @@
 -- The islands, by their devices and by the prefixes that they originate, as the code keeps them.
 -- Below, `label d` is the label of d's island.
-use Rattle.std.specs.Prelude.{◌≡◌, ℕ, ◌<◌, ◌⊎◌, ◌++◌, [], ◌∷◌, Bool, List, Option, Some, IsSome, All, Contains}
+use Rattle.std.specs.Prelude.{◌≡◌, ◌⊎◌, Bool, List, Option, Some, IsSome, All, Contains}
 use Rattle.std.specs.List.Sorted.{IsNonDecreasingBy, IsSortedBy, IsStrictlySortedBy}
 use Rattle.std.specs.Ordering.{is_lt, nat_cmp, on, then_cmp}
 use Rattle.std.specs.declared.cmp.Ordering.{Ordering}

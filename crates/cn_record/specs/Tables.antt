@@ -1,5 +1,5 @@
 -- What each device holds for one prefix, in a list, and what the devices then decide.
-use Rattle.std.specs.Prelude.{◌≡◌, ◌+◌, Bool, true, false, not, min, List, length, map, Option, None, Some, slice_index_or, slice_set}
+use Rattle.std.specs.Prelude.{◌≡◌, ◌+◌, Bool, true, false, not, min, List, length, Option, None, Some, slice_index_or, slice_set}
 use Rattle.std.specs.List.{fold}
 use Rattle.cn_base.specs.Cidr.{Cidr}
 use Rattle.cn_base.specs.Rank.{ranks_before}

@@ -1,4 +1,4 @@
-use Rattle.std.proofs.Common.{◌∙◌, ◌≡◌, ◌<◌, length, arith, sym}
+use Rattle.std.proofs.Common.{◌∙◌, ◌<◌, length, arith, sym}
 use Rattle.cn_record.proofs.Deciding.{not_offered, offered_next, passed_over, not_beaten}
 use Rattle.cn_record.proofs.decision.better_heard.Goals as goal
 use Rattle.cn_record.proofs.decision.better_heard.Goals.{In-Some}

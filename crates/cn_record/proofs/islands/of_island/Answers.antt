@@ -1,5 +1,4 @@
-use Rattle.std.proofs.Common.{◌≡◌, ◌∙◌, arith, false, leb, length, ltb, rules, take, true}
-use Rattle.std.specs.List.Sorted.{IsPartitionPoint}
+use Rattle.std.proofs.Common.{◌∙◌, arith, leb, length, ltb, rules, take}
 use Rattle.std.proofs.lemmas.List.Sorted.{IsPartitionPoint-from_clause, IsPartitionedBy-leb, IsPartitionedBy-ltb}
 use Rattle.std.proofs.lemmas.Slice.{between_to_end}
 use Rattle.cn_record.proofs.Parts.{front_rises, islands_rise, part_is}

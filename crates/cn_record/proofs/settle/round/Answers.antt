@@ -1,4 +1,4 @@
-use Rattle.std.proofs.Common.{◌≡◌, ◌+◌, ◌<◌, ◌∙◌, arith, false, get_or, length, set, subst, sym, true}
+use Rattle.std.proofs.Common.{◌+◌, ◌<◌, ◌∙◌, arith, get_or, length, set, subst, sym}
 use Rattle.cn_record.proofs.Turns.{HaveDecided, decided_alike, decided_otherwise}
 use Rattle.cn_record.specs.declared.islands.Member.{Member}
 use Rattle.cn_record.proofs.settle.round.Goals as goal

@@ -1,4 +1,3 @@
-use Rattle.std.proofs.Common.{◌∙◌, ap, sym}
 use Rattle.std.proofs.lemmas.Result.{IfOk-weaker}
 use Rattle.cn_record.proofs.Finding.{all_found}
 use Rattle.cn_record.proofs.soundness.examined.Goals as goal

@@ -1,6 +1,5 @@
-use Rattle.std.proofs.Common.{◌≡◌, ◌+◌, ◌∙◌, arith, get_or, length, subst, sym, take}
+use Rattle.std.proofs.Common.{◌+◌, ◌∙◌, arith, subst, sym, take}
 use Rattle.std.specs.Prelude.{All, MatchOption}
-use Rattle.std.proofs.lemmas.Bool.{not-false}
 use Rattle.std.proofs.lemmas.List.{take_all}
 use Rattle.cn_net.specs.Islands.{label_of}
 use Rattle.cn_record.specs.Differing.{AgreesFor, IsEmptyTable, IsFirstAmong, IsFirstFor}

@@ -1,4 +1,4 @@
-use Rattle.std.proofs.Common.{◌≡◌, length, take}
+use Rattle.std.proofs.Common.{take}
 use Rattle.std.specs.Prelude.{All, MatchOption}
 use Rattle.cn_record.specs.Differing.{AgreesFor, IsEmptyTable, IsFirstAmong}
 use Rattle.cn_record.proofs.soundness.first_unsound.Given as goal

@@ -1,7 +1,6 @@
-use Rattle.std.proofs.Common.{◌≡◌, ◌<◌, arith, length, map, subst, sym}
+use Rattle.std.proofs.Common.{◌<◌, arith, length, map, subst, sym}
 use Rattle.std.specs.Prelude.{All}
 use Rattle.cn_net.specs.Islands.{label_of}
-use Rattle.cn_net.specs.Network.{IsDevice}
 use Rattle.cn_record.specs.Differing.{IsEmptyTable}
 use Rattle.cn_record.specs.Tables.{IsSettled}
 use Rattle.cn_record.proofs.Finding.{found_apart}

@@ -1,4 +1,4 @@
-use Rattle.std.proofs.Common.{◌≡◌, ◌<◌, ◌≤◌, ◌∙◌, arith, ap, length, subst, sym}
+use Rattle.std.proofs.Common.{◌≤◌, ◌∙◌, arith, ap, length}
 use Rattle.cn_net.specs.Islands.{label_of}
 use Rattle.cn_net.specs.Network.{IsDevice}
 use Rattle.cn_record.specs.Recorded.{RecordedOpening}
