@@ -3,3 +3,4 @@ pub mod Refusal
 pub mod Facing
 pub mod Origins
 pub mod Earlier
+pub mod Certificate

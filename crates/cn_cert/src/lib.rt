@@ -4,11 +4,12 @@
 //! island, the emulated devices that face it are of one AS, the devices of the island that face the
 //! emulated part are of one AS, and the prefixes that the island originates are originated nowhere
 //! else. `cn_net` has the definition (`specs/Certificate.antt`); here `specs/Refusal.antt` says what a
-//! refusal names and which one is the first. The layer above calls `first_refusal`, and cites
-//! `refused_is_not_certified`. The sessions are those of RFC 7938, section 5; that an AS refuses a
+//! refusal names and which one is the first. The layer above calls `certify`, or `first_refusal` where it keeps
+//! the parts, and cites `refused_is_not_certified`. The sessions are those of RFC 7938, section 5; that an AS refuses a
 //! path which holds its own number is RFC 4271, section 9.1.2.
 #![tactic(auto)]
 
+mod certificate;
 mod facing;
 mod first;
 mod groups;
@@ -16,6 +17,7 @@ mod laws;
 mod origins;
 mod refusal;
 
+pub use certificate::{CertWhy, Uncertified, certify};
 pub use first::first_refusal;
 pub use laws::refused_is_not_certified;
 pub use refusal::{Refusal, Side};

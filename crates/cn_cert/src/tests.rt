@@ -1,3 +1,8 @@
+ghost use Rattle.std.specs.Prelude.{◌≡◌, true, All, IfOk};
+ghost use Rattle.cn_base.specs.declared.ids.DeviceId.{DeviceId as DeviceNumber};
+ghost use Rattle.cn_net.specs.Islands.{holds_device};
+ghost use Rattle.cn_net.specs.Network.{IsDevice};
+
 use super::*;
 use cn_base::{Asn, DeviceId, Items, Name, Origin, Prefix, RouterId};
 use cn_net::{BodyDraft, DeviceDraft, DeviceSet, Draft, Labels, LinkDraft, Net, Own};
@@ -111,7 +116,9 @@ fn network(
 }
 
 // The set of those of these numbers that are devices.
-fn set(alloc: Global, net: &Net, numbers: &[u32]) -> Result<DeviceSet, AllocError> {
+fn set(alloc: Global, net: &Net, numbers: &[u32]) -> Result<DeviceSet, AllocError>
+    ensures { IfOk result (λ set. All (IsDevice net.now) set) }
+{
     let mut devices = Vec::new(alloc);
     for number in numbers {
         if *number < net.count() {
@@ -301,5 +308,32 @@ fn lower_island(rt: HostRuntime) -> Result<(), Fail> {
         &[RACK_ONE, RACK_TWO, NO, NO, NO],
     )?;
     assert_eq!(rt; refused, origins(&rt, RACK_ONE, TWO, RACK_ONE, RACK_TWO));
+    Ok(())
+}
+
+// Ok comes only where the set holds each device.
+fn hold_each(net: &Net, set: &DeviceSet) -> Result<(), Fail>
+    ensures { IfOk result (λ done. (d : DeviceNumber) → IsDevice net.now d → holds_device set.now d ≡ true) }
+{
+    for number in 0..net.count() {
+        if !set.holds(DeviceId(number)) {
+            return Err(Fail::new("outside"));
+        }
+    }
+    Ok(())
+}
+
+// Where each device is emulated there is no island, and nothing to refuse.
+#[test]
+fn all_emulated(rt: HostRuntime) -> Result<(), Fail> {
+    let alloc = rt.alloc();
+    let own = [(RACK_ONE, ONE), (RACK_TWO, ONE)];
+    let net = network(&rt, alloc, &AS_NUMBERS[..5], &own, &LINKS)?;
+    let emulated = set(alloc, &net, &[0, 1, 2, 3, 4])?;
+    hold_each(&net, &emulated)?;
+    match certify(alloc, net, emulated, Labels::make(Vec::new(alloc))) {
+        Ok(certified) => assert_eq!(rt; certified.emulated().len(), 5),
+        Err(_) => return Err(Fail::new("refused")),
+    }
     Ok(())
 }
