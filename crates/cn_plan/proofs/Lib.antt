@@ -1,0 +1,5 @@
+pub mod Boundaries
+pub mod SameRows
+pub mod Rows
+pub mod Counting
+pub mod Steps
