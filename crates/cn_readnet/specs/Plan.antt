@@ -2,18 +2,20 @@
 -- Of a table its keys are read in the order that stands here, and after them a key that isn't listed is a fault.
 use Rattle.std.specs.Prelude.{ℕ, ℤ, pos, true, if◌then◌else◌, codes, List, [], ◌∷◌, ◌++◌, Option, Some, None, ok_or, Result, Ok, Err}
 use Rattle.std.specs.Ordering.{int_eq}
-use Rattle.std.specs.Str.{is_utf8}
-use Rattle.toml.specs.Data.{Data, Members, as_array}
-use Rattle.toml.specs.Parse.{parse_document}
+use Rattle.toml.specs.Data.{Data, Members, get_member, as_array}
 use Rattle.cn_base.specs.declared.ids.Origin.TheVariants.{Igp}
 use Rattle.cn_net.specs.declared.device.Own.{Own}
 use Rattle.cn_net.specs.declared.draft.DeviceDraft.{DeviceDraft}
 use Rattle.cn_net.specs.declared.draft.LinkDraft.{LinkDraft}
 use Rattle.cn_text.specs.declared.answer.TextAnswer.{TextAnswer}
-use Rattle.cn_text.specs.declared.answer.TextAnswer.TheVariants.{NotUtf8, NotToml, Shape, Version}
+use Rattle.cn_text.specs.declared.answer.TextAnswer.TheVariants.{Key, Shape, Version}
+use Rattle.cn_table.specs.Document.{document_of}
 use Rattle.cn_table.specs.Reading.{◌>>=◌}
-use Rattle.cn_table.specs.Tables.{front_of, needed, integer_of, table_of, name_in, name_at, address_at, prefix_in, number_at, array_at, each, only}
+use Rattle.cn_table.specs.Tables.{front_of, needed, integer_of, table_of, name_in, name_at, name_if_at, address_at, prefix_in, prefix_at, path_at, origin_at, number_at, array_at, each, only}
 use Rattle.cn_readnet.specs.declared.plan.NetText.{NetText}
+use Rattle.cn_readnet.specs.declared.record.RowDraft.{RowDraft}
+use Rattle.cn_readnet.specs.declared.selection.NameSelection.{NameSelection}
+use Rattle.cn_readnet.specs.declared.selection.NameSelection.TheVariants.{Must, Emulate}
 
 -- a prefix alone, which the device originates with the ORIGIN igp (RFC 4271, 5.1.1)
 unfoldable pub own_of : List ℕ → Data → Result Own TextAnswer
@@ -62,6 +64,25 @@ link_of path d = do
   ms ← table_of path d
   link_in (front_of path) ms
 
+abbrev pub record_keys : List (List ℕ)
+record_keys = codes "device" ∷ codes "prefix" ∷ codes "path" ∷ codes "origin" ∷ codes "from" ∷ []
+
+-- what a device holds for a prefix, which is its own where no sender is named
+unfoldable pub record_in : List ℕ → Members → Result RowDraft TextAnswer
+record_in front ms = do
+  device ← name_at front (codes "device") ms
+  prefix ← prefix_at front (codes "prefix") ms
+  path ← path_at front (codes "path") ms
+  origin ← origin_at front (codes "origin") ms
+  from ← name_if_at front (codes "from") ms
+  no_more ← only front record_keys ms
+  Ok (record { device = device; prefix = prefix; path = path; origin = origin; from = from })
+
+unfoldable pub record_of : List ℕ → Data → Result RowDraft TextAnswer
+record_of path d = do
+  ms ← table_of path d
+  record_in (front_of path) ms
+
 -- the version is 1
 abbrev pub is_version : ℤ → Result (Unit {0}) TextAnswer
 is_version z = if int_eq z (pos 1) then Ok tt else Err (Version z)
@@ -72,12 +93,37 @@ version_at ms = do
   z ← integer_of (codes "version") d
   is_version z
 
--- the names of the emulated devices, which must be there
-unfoldable pub emulate_at : Members → Result (List (List ℕ)) TextAnswer
-emulate_at ms = do
-  d ← needed [] (codes "emulate") ms
-  items ← ok_or (as_array d) (Shape (codes "emulate"))
-  each name_in (codes "emulate") 0 items
+-- the names that an array of strings holds
+unfoldable pub names_in : List ℕ → Data → Result (List (List ℕ)) TextAnswer
+names_in path d = do
+  items ← ok_or (as_array d) (Shape path)
+  each name_in path 0 items
+
+-- `emulate` isn't there, whatever it would hold
+abbrev pub alone : Option Data → Result (Unit {0}) TextAnswer
+alone None = Ok tt
+alone (Some d) = Err (Key (codes "emulate"))
+
+-- `must` is read whole before `emulate` is looked for
+unfoldable pub must_in : Data → Option Data → Result NameSelection TextAnswer
+must_in must emulate = do
+  names ← names_in (codes "must") must
+  only_must ← alone emulate
+  Ok (Must names)
+
+unfoldable pub emulate_in : Data → Result NameSelection TextAnswer
+emulate_in emulate = do
+  names ← names_in (codes "emulate") emulate
+  Ok (Emulate names)
+
+-- the names by which devices are selected: exactly one of `must` and `emulate` is there
+abbrev pub selection_in : Option Data → Option Data → Result NameSelection TextAnswer
+selection_in (Some must) emulate = must_in must emulate
+selection_in None (Some emulate) = emulate_in emulate
+selection_in None None = Err (Key (codes "must"))
+
+unfoldable pub selection_at : Members → Result NameSelection TextAnswer
+selection_at ms = selection_in (get_member (codes "must") ms) (get_member (codes "emulate") ms)
 
 -- the devices, none where the key is absent
 unfoldable pub devices_at : Members → Result (List DeviceDraft) TextAnswer
@@ -91,22 +137,31 @@ links_at ms = do
   items ← array_at [] (codes "link") ms
   each link_of (codes "link") 0 items
 
+-- the records, none where the key is absent
+unfoldable pub records_at : Members → Result (List RowDraft) TextAnswer
+records_at ms = do
+  items ← array_at [] (codes "record") ms
+  each record_of (codes "record") 0 items
+
 abbrev pub plan_keys : List (List ℕ)
-plan_keys = codes "version" ∷ codes "emulate" ∷ codes "device" ∷ codes "link" ∷ []
+plan_keys = codes "version" ∷ codes "must" ∷ codes "emulate" ∷ codes "device" ∷ codes "link" ∷ codes "record" ∷ []
+
+-- the top table has the keys of a plan alone
+unfoldable pub only_plan_keys : Members → Result (Unit {0}) TextAnswer
+only_plan_keys ms = only [] plan_keys ms
 
 unfoldable pub plan_in : Members → Result NetText TextAnswer
 plan_in ms = do
   version ← version_at ms
-  emulate ← emulate_at ms
+  selection ← selection_at ms
   devices ← devices_at ms
   links ← links_at ms
-  no_more ← only [] plan_keys ms
-  Ok (record { draft = record { devices = devices; links = links }; emulate = emulate })
-
-abbrev pub document_of : Option Members → Result NetText TextAnswer
-document_of None = Err NotToml
-document_of (Some ms) = plan_in ms
+  rows ← records_at ms
+  no_more ← only_plan_keys ms
+  Ok (record { draft = record { devices = devices; links = links }; selection = selection; rows = rows })
 
 -- the plan that bytes stand for, by the table that they are as TOML
 unfoldable pub plan_of : List ℕ → Result NetText TextAnswer
-plan_of bytes = if is_utf8 bytes then document_of (parse_document bytes) else Err NotUtf8
+plan_of bytes = do
+  ms ← document_of bytes
+  plan_in ms

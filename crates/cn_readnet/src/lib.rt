@@ -1,18 +1,23 @@
-//! The plan that a text stands for: devices and links as they are written, and the names of the
-//! emulated devices.
+//! The plan that a text stands for: devices and links as they are written, the names that select the
+//! emulated devices, and the records of outside devices.
 //!
 //! `specs/Plan.antt` has the format, one definition a table, with its keys in the order in which they
 //! are read and their faults are told: `plan_of` gives the plan or the first fault of any bytes. It
-//! stands on the table that the bytes are as TOML, and on `specs/Tables.antt` of `cn_table` for its
-//! values. `read_net` computes it. Whether the draft stands for a network, and whether the emulated
-//! names are those of devices, is left to the crates above.
+//! stands on `cn_table` for the table that the bytes are as TOML (`specs/Document.antt`) and for its
+//! values (`specs/Tables.antt`). `read_net` computes it. Whether the draft stands for a network, and
+//! whether the names that select devices and those in records are of devices, is left to the crates
+//! above.
 #![tactic(auto)]
 
 mod device;
 mod link;
 mod plan;
+mod record;
+mod selection;
 
 pub use plan::{NetText, read_net};
+pub use record::RowDraft;
+pub use selection::NameSelection;
 
 #[cfg(test)]
 mod tests;

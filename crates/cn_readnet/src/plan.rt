@@ -3,22 +3,26 @@
 ghost use Rattle.std.specs.Prelude.{◌≡◌};
 ghost use Rattle.toml.specs.View.{table_view};
 ghost use Rattle.cn_table.specs.Reading.{Reads};
-ghost use Rattle.cn_readnet.specs.Plan.{version_at, emulate_at, plan_in, plan_of};
+ghost use Rattle.cn_readnet.specs.Plan.{version_at, only_plan_keys, plan_in, plan_of};
 
 use crate::device::devices_at;
 use crate::link::links_at;
-use cn_base::{Items, Name};
+use crate::record::{RowDraft, records_at};
+use crate::selection::{NameSelection, selection_at};
+use cn_base::Items;
 use cn_net::Draft;
-use cn_table::{NameReader, bad_shape, each, needed, only};
+use cn_table::{bad_shape, document_of, needed, only};
 use cn_text::TextAnswer;
 use std::alloc::Global;
-use toml::{Table, table_from_str};
+use toml::Table;
 
-/// A plan as it is written: a network, and the names of the emulated devices in the plan's order.
+/// A plan as it is written: a network, the names that select the emulated devices, and the records of
+/// outside devices, each in the plan's order.
 #[derive(Debug, Drop)]
 pub struct NetText {
     pub draft: Draft,
-    pub emulate: Items<Name>,
+    pub selection: NameSelection,
+    pub rows: Items<RowDraft>,
 }
 
 #[tactic(auto, unfolding(crate::specs::Plan::version_at))]
@@ -38,15 +42,12 @@ fn version_at(alloc: Global, table: &Table) -> Result<(), TextAnswer>
     }
 }
 
-#[tactic(auto, unfolding(crate::specs::Plan::emulate_at))]
-fn emulate_at(alloc: Global, table: &Table) -> Result<Items<Name>, TextAnswer>
-    ensures { Reads result (emulate_at (table_view table.now)) }
+#[tactic(auto, unfolding(crate::specs::Plan::only_plan_keys))]
+fn only_plan_keys(alloc: Global, table: &Table) -> Result<(), TextAnswer>
+    ensures { Reads result (only_plan_keys (table_view table.now)) }
 {
-    let value = needed(alloc, b"", "emulate", table)?;
-    match value.as_array() {
-        None => Err(bad_shape(alloc, b"emulate")),
-        Some(values) => each(alloc, &NameReader, b"emulate", values.as_slice()),
-    }
+    let keys = ["version", "must", "emulate", "device", "link", "record"];
+    only(alloc, b"", &keys, table)
 }
 
 #[tactic(auto, unfolding(crate::specs::Plan::plan_in))]
@@ -54,13 +55,15 @@ fn plan_in(alloc: Global, table: &Table) -> Result<NetText, TextAnswer>
     ensures { Reads result (plan_in (table_view table.now)) }
 {
     version_at(alloc, table)?;
-    let emulate = emulate_at(alloc, table)?;
+    let selection = selection_at(alloc, table)?;
     let devices = devices_at(alloc, table)?;
     let links = links_at(alloc, table)?;
-    only(alloc, b"", &["version", "emulate", "device", "link"], table)?;
+    let rows = records_at(alloc, table)?;
+    only_plan_keys(alloc, table)?;
     Ok(NetText {
         draft: Draft { devices, links },
-        emulate,
+        selection,
+        rows,
     })
 }
 
@@ -70,17 +73,6 @@ fn plan_in(alloc: Global, table: &Table) -> Result<NetText, TextAnswer>
 pub fn read_net(alloc: Global, bytes: &[u8]) -> Result<NetText, TextAnswer>
     ensures { Reads result (plan_of bytes.now) }
 {
-    match std::str::from_utf8(bytes) {
-        Err(_) => Err(TextAnswer::NotUtf8),
-        Ok(text) => match table_from_str(alloc, text) {
-            Ok(table) => plan_in(alloc, &table),
-            Err(error) => {
-                if error.is_memory() {
-                    Err(TextAnswer::Memory)
-                } else {
-                    Err(TextAnswer::NotToml)
-                }
-            }
-        },
-    }
+    let table = document_of(alloc, bytes)?;
+    plan_in(alloc, &table)
 }

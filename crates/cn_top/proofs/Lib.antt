@@ -1,8 +1,7 @@
-pub mod Boundaries
 pub mod Meanings
 pub mod Meant
+pub mod Names
 pub mod OneEmulation
-pub mod Openings
 pub mod Outcomes
 pub mod Plannings
 pub mod Puts

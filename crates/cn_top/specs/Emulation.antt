@@ -1,25 +1,36 @@
--- What the text of a plan stands for: a network and the names of its emulated devices; and when its boundary is certified.
-use Rattle.std.specs.Prelude.{◌≡◌, ℕ, ◌≤◌, Bool, true, false, not, List, length, All, Option, Ok, option_map, unwrap_or}
+-- What the text of a plan stands for: a network, its emulated devices, and what is recorded of its devices.
+use Rattle.std.specs.Prelude.{◌≡◌, ℕ, ◌≤◌, Bool, false, not, List, length, map, All, Option, Some, None, Ok, option_map, unwrap_or}
 use Rattle.std.specs.List.{list_any}
 use Rattle.std.specs.Str.{bytes_eq}
+use Rattle.cn_base.specs.Cidr.{Cidr}
 use Rattle.cn_base.specs.declared.ids.DeviceId.{DeviceId}
-use Rattle.cn_net.specs.Certificate.{IsCertified}
+use Rattle.cn_grow.specs.Growth.{IsGrown}
 use Rattle.cn_net.specs.Drafted.{draft_of}
-use Rattle.cn_net.specs.Islands.{IsIslands}
-use Rattle.cn_net.specs.Network.{Network, IsDevice, device_ids, device_of, name_of}
-use Rattle.cn_net.specs.Opening.{IsOpening, Opening}
+use Rattle.cn_net.specs.Islands.{IsAscending, holds_device, outside_of}
+use Rattle.cn_net.specs.Network.{Network, IsDevice, device_of, name_of}
 use Rattle.cn_net.specs.Valid.{IsValid}
 use Rattle.cn_net.specs.declared.device.Device.{Device}
-use Rattle.cn_cert.specs.Refusal.{IsFirstRefusal}
-use Rattle.cn_cert.specs.declared.refusal.Refusal.{Refusal}
 use Rattle.cn_readnet.specs.Plan.{plan_of}
+use Rattle.cn_plan.specs.Limits.{IsWithinLimits}
+use Rattle.cn_readnet.specs.declared.selection.NameSelection.{NameSelection}
+use Rattle.cn_readnet.specs.declared.selection.NameSelection.TheVariants.{Emulate, Must}
 use Rattle.cn_readnet.specs.declared.plan.NetText.{NetText}
+use Rattle.cn_readnet.specs.declared.record.RowDraft.{RowDraft}
+use Rattle.cn_record.specs.Rows.{IsRepeated}
+use Rattle.cn_record.specs.declared.saved.Row.{Row}
 
--- ---- a network and its emulated devices
+-- ---- a network, its emulated devices and its records
 
 pub record Emulation : Type 0 where
   pub net : Network
-  pub emulate : List (List ℕ)
+  pub emulated : List DeviceId
+  pub rows : List Row
+
+-- d isn't emulated
+abbrev pub is_outside : Emulation → DeviceId → Bool
+is_outside e = outside_of e.emulated
+
+-- ---- the emulated devices
 
 abbrev pub is_named : List (List ℕ) → Device → Bool
 is_named names d = list_any (bytes_eq d.name) names
@@ -28,9 +39,45 @@ is_named names d = list_any (bytes_eq d.name) names
 abbrev pub names_device : Network → List (List ℕ) → DeviceId → Bool
 names_device net names d = unwrap_or (option_map (is_named names) (device_of net d)) false
 
--- d isn't emulated
-abbrev pub is_outside : Emulation → DeviceId → Bool
-is_outside e d = not (names_device e.net e.emulate d)
+-- a device of the network bears the name
+abbrev pub IsBorne : Network → List ℕ → Type 0
+IsBorne net name = (d : DeviceId) × IsDevice net d × (name_of net d ≡ name)
+
+-- each name is a device's, and the set holds exactly the devices that bear them
+pub record Selects (net : Network) (names : List (List ℕ)) (set : List DeviceId) : Type 0 where
+  pub known : All (IsBorne net) names
+  pub exactly : (d : DeviceId) → holds_device set d ≡ names_device net names d
+
+-- the devices that a plan names, or the set that is grown from those
+abbrev pub Chooses : Network → NameSelection → List DeviceId → Type 0
+Chooses net (Emulate names) set = Selects net names set
+Chooses net (Must names) set = (given : List DeviceId) × Selects net names given × IsGrown net given set
+
+-- ---- records
+
+-- the device that a route came from, if it came from one, is a device of the network
+abbrev pub IsSender : Network → Option DeviceId → Type 0
+IsSender net None = Unit {0}
+IsSender net (Some x) = IsDevice net x
+
+-- the row is that of a device, and its route is the device's own or came from a device
+pub record IsRowOf (net : Network) (row : Row) : Type 0 where
+  pub device : IsDevice net row.device
+  pub sender : IsSender net row.choice.from
+
+-- the row as a plan writes it
+abbrev pub row_draft : Network → Row → RowDraft
+row_draft net row =
+    record { device = name_of net row.device; prefix = row.prefix; path = row.choice.path; origin = row.choice.origin; from = option_map (name_of net) row.choice.from }
+
+-- the rows read as these of a plan
+pub record ReadAs (net : Network) (drafts : List RowDraft) (rows : List Row) : Type 0 where
+  pub each : All (IsRowOf net) rows
+  pub written : map (row_draft net) rows ≡ drafts
+
+-- no two rows have one device and prefix
+abbrev pub HaveNoRepeat : List Row → Type 0
+HaveNoRepeat rows = (d : DeviceId) (p : Cidr) → IsRepeated rows d p → ⊥
 
 -- ---- what a text stands for
 
@@ -38,49 +85,28 @@ is_outside e d = not (names_device e.net e.emulate d)
 abbrev pub plan_limit : ℕ
 plan_limit = 16777216
 
--- a device of the network bears the name
-abbrev pub IsBorne : Network → List ℕ → Type 0
-IsBorne net name = (d : DeviceId) × IsDevice net d × (name_of net d ≡ name)
+-- the text is short enough, and this plan is read from it
+abbrev pub ReadsPlan : List ℕ → NetText → Type 0
+ReadsPlan bytes text = (length bytes ≤ plan_limit) × (plan_of bytes ≡ Ok text)
 
--- A plan as it is read stands for a valid network, whose devices and links read as the plan's, and for its own names of
--- emulated devices, each of which a device bears.
+-- A plan as it is read describes a valid network, whose devices and links read as the plan's; the devices that it chooses;
+-- and rows that read as the plan's, at most one for each device and prefix.
 pub record IsEmulationOf (text : NetText) (e : Emulation) : Type 0 where
   pub draft : draft_of e.net ≡ text.draft
-  pub emulate : e.emulate ≡ text.emulate
   pub valid : IsValid e.net
-  pub known : All (IsBorne e.net) e.emulate
+  pub chosen : Chooses e.net text.selection e.emulated
+  pub ascending : IsAscending e.emulated
+  pub recorded : ReadAs e.net text.rows e.rows
+  pub once : HaveNoRepeat e.rows
 
--- The text is short enough, and what is read from it stands for this network and these names.
+-- the plan stands for this: it describes it, and the emulated devices are within the limits
+abbrev pub PlanStandsFor : NetText → Emulation → Type 0
+PlanStandsFor text e = IsEmulationOf text e × IsWithinLimits e.net e.emulated
+
+-- the text stands for what its plan stands for
 abbrev pub StandsFor : List ℕ → Emulation → Type 0
-StandsFor bytes e = (length bytes ≤ plan_limit) × ((text : NetText) × (plan_of bytes ≡ Ok text) × IsEmulationOf text e)
+StandsFor bytes e = (text : NetText) × ReadsPlan bytes text × PlanStandsFor text e
 
-abbrev pub StandsForNone : List ℕ → Type 0
-StandsForNone bytes = (e : Emulation) → StandsFor bytes e → ⊥
-
--- ---- the boundary, with the islands of the outside
-
--- every device is emulated
-abbrev pub AllEmulated : Network → (DeviceId → Bool) → Type 0
-AllEmulated net outside = (d : DeviceId) → IsDevice net d → outside d ≡ false
-
--- some device isn't emulated
-abbrev pub SomeOutside : Network → (DeviceId → Bool) → Type 0
-SomeOutside net outside = (d : DeviceId) × IsDevice net d × (outside d ≡ true)
-
--- the boundary is certified
-abbrev pub CertificateHolds : Network → (DeviceId → Bool) → Type 0
-CertificateHolds net outside = (label : DeviceId → Option DeviceId) × IsIslands net outside label × IsCertified net outside label
-
--- the boundary isn't certified
-abbrev pub CertificateFails : Network → (DeviceId → Bool) → Type 0
-CertificateFails net outside = (label : DeviceId → Option DeviceId) × IsIslands net outside label × ¬ (IsCertified net outside label)
-
--- the first that is wrong with the boundary
-abbrev pub IsRefusedBy : Network → (DeviceId → Bool) → Refusal → Type 0
-IsRefusedBy net outside refusal = (label : DeviceId → Option DeviceId) × IsIslands net outside label × IsFirstRefusal net outside label refusal
-
--- an opening of the network in which every device is emulated
-pub record IsOpeningOf (net : Network) (o : Opening) : Type 0 where
-  pub network : o.net ≡ net
-  pub everyone : o.emulated ≡ device_ids net
-  pub opening : IsOpening o
+-- no plan is read from the text
+abbrev pub ReadsNone : List ℕ → Type 0
+ReadsNone bytes = (text : NetText) → ReadsPlan bytes text → ⊥

@@ -2,6 +2,8 @@ pub mod Status
 pub mod Form
 pub mod FormView
 pub mod Emulation
+pub mod Faults
+pub mod FaultTexts
 pub mod Selection
 pub mod Texts
 pub mod Plan

@@ -1,11 +1,13 @@
 -- When each status comes, one at a time.
 use Rattle.std.specs.Prelude.{◌≡◌, ◌⊎◌, ℕ, ◌<◌, codes, List, Option, Some}
-use Rattle.cn_top.specs.Emulation.{Emulation, is_outside, CertificateHolds, SomeOutside, StandsFor, StandsForNone}
+use Rattle.cn_top.specs.Emulation.{Emulation, ReadsNone, ReadsPlan, StandsFor}
 use Rattle.cn_top.specs.Form.{Form, plan_form, serial_form, later_form, usage_form}
+use Rattle.cn_core.specs.Laws.{AllEmulated as AllAreEmulated}
 use Rattle.cn_net.specs.Opening.{Opening}
+use Rattle.cn_readnet.specs.declared.plan.NetText.{NetText}
 use Rattle.cn_readscript.specs.declared.command.Command.{Command}
 use Rattle.cn_top.specs.Planned.{OpensText}
-use Rattle.cn_top.specs.Serial.{Scripts, ScriptsNone}
+use Rattle.cn_top.specs.Serial.{Scripts, ScriptsNone, SomeAreOutside}
 use Rattle.cn_top.specs.declared.status.Status.{Status}
 use Rattle.cn_top.specs.declared.status.Status.TheVariants as status
 
@@ -16,18 +18,26 @@ Plans (serial_form file script trace) held e = (bytes : List ℕ) × (held file 
 Plans (later_form word) held e = ⊥
 Plans usage_form held e = ⊥
 
--- what isn't built yet of a plan: another form, or a plan with outside devices whose certificate holds
-abbrev pub IsUnbuiltPlan : List ℕ → (List ℕ → Option (List ℕ)) → List ℕ → Type 0
-IsUnbuiltPlan file held what =
-    ((what ≡ codes "plan text") × ((bytes : List ℕ) × (held file ≡ Some bytes) × StandsForNone bytes))
-    ⊎ ((what ≡ codes "records") × ((e : Emulation) × Plans (plan_form file) held e × CertificateHolds e.net (is_outside e) × SomeOutside e.net (is_outside e)))
+-- the words ask for a plan or a run, and this plan is read from the plan's file
+abbrev pub Reads : Form → (List ℕ → Option (List ℕ)) → NetText → Type 0
+Reads (plan_form file) held text = (bytes : List ℕ) × (held file ≡ Some bytes) × ReadsPlan bytes text
+Reads (serial_form file script trace) held text = (bytes : List ℕ) × (held file ≡ Some bytes) × ReadsPlan bytes text
+Reads (later_form word) held text = ⊥
+Reads usage_form held text = ⊥
 
--- what isn't built yet: that, another form of a script, or a command
+-- no plan is read from the plan's file
+abbrev pub IsNoPlan : List ℕ → (List ℕ → Option (List ℕ)) → List ℕ → Type 0
+IsNoPlan file held what = (what ≡ codes "plan text") × ((bytes : List ℕ) × (held file ≡ Some bytes) × ReadsNone bytes)
+
+-- What isn't built yet: another form of a plan; for a run also an emulation with outside devices, and another form of a
+-- script; or a command.
 abbrev pub IsUnbuilt : Form → (List ℕ → Option (List ℕ)) → List ℕ → Type 0
-IsUnbuilt (plan_form file) held what = IsUnbuiltPlan file held what
+IsUnbuilt (plan_form file) held what = IsNoPlan file held what
 IsUnbuilt (serial_form file script trace) held what =
-    IsUnbuiltPlan file held what
-    ⊎ ((what ≡ codes "script text") × ((plan bytes : List ℕ) × (o : Opening) × (held file ≡ Some plan) × OpensText plan o × (held script ≡ Some bytes) × ScriptsNone bytes))
+    IsNoPlan file held what
+    ⊎ ((what ≡ codes "speakers") × ((plan : List ℕ) × (o : Opening) × (held file ≡ Some plan) × OpensText plan o × SomeAreOutside o))
+    ⊎ ((what ≡ codes "script text")
+    × ((plan bytes : List ℕ) × (o : Opening) × (held file ≡ Some plan) × OpensText plan o × AllAreEmulated o × (held script ≡ Some bytes) × ScriptsNone bytes))
 IsUnbuilt (later_form word) held what = what ≡ word
 IsUnbuilt usage_form held what = ⊥
 
@@ -35,7 +45,8 @@ IsUnbuilt usage_form held what = ⊥
 -- and this script
 abbrev pub AsksForRun : Form → (List ℕ → Option (List ℕ)) → Opening → List Command → Type 0
 AsksForRun (plan_form file) held o commands = ⊥
-AsksForRun (serial_form file script trace) held o commands = (plan bytes : List ℕ) × (held file ≡ Some plan) × OpensText plan o × (held script ≡ Some bytes) × Scripts bytes commands
+AsksForRun (serial_form file script trace) held o commands =
+    (plan bytes : List ℕ) × (held file ≡ Some plan) × OpensText plan o × AllAreEmulated o × (held script ≡ Some bytes) × Scripts bytes commands
 AsksForRun (later_form word) held o commands = ⊥
 AsksForRun usage_form held o commands = ⊥
 

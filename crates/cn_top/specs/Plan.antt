@@ -2,11 +2,17 @@
 use Rattle.std.specs.Prelude.{◌≡◌, ◌⊎◌, ℕ, ◌<◌, Bool, IsTrue, codes, List, Option, Some}
 use Rattle.cn_base.specs.declared.ids.DeviceId.{DeviceId}
 use Rattle.cn_net.specs.Network.{Network}
-use Rattle.cn_cert.specs.declared.refusal.Refusal.{Refusal}
+use Rattle.cn_net.specs.Opening.{Opening}
+use Rattle.cn_net.specs.declared.draft.Draft.{Draft}
 use Rattle.cn_readnet.specs.declared.plan.NetText.{NetText}
-use Rattle.cn_top.specs.Emulation.{Emulation, is_outside, AllEmulated, SomeOutside, CertificateHolds, IsRefusedBy, IsEmulationOf, StandsFor, StandsForNone}
+use Rattle.cn_record.specs.declared.saved.Row.{Row}
+use Rattle.cn_plan.specs.Boundary.{BoundaryFault, IsFirstFault, IsSafeOpening}
+use Rattle.cn_top.specs.Emulation.{Emulation, PlanStandsFor, ReadsNone, ReadsPlan, is_outside}
+use Rattle.cn_top.specs.Faults.{IsPlanFault}
+use Rattle.cn_top.specs.FaultTexts.{bad_net_line}
 use Rattle.cn_top.specs.Texts.{usage_line, unbuilt_line, unread_line, refused_line, plan_text}
 use Rattle.cn_top.specs.declared.answer.Answer.{Answer}
+use Rattle.cn_top.specs.declared.fault.PlanFault.{PlanFault}
 use Rattle.cn_top.specs.declared.status.Status.TheVariants as status
 
 -- ---- answers
@@ -20,33 +26,34 @@ unbuilt_answer what = record { status = status.Unbuilt; text = unbuilt_line what
 abbrev pub unread_answer : List ℕ → Answer
 unread_answer name = record { status = status.ReadFault; text = unread_line name }
 
-abbrev pub refused_answer : Network → Refusal → Answer
-refused_answer net refusal = record { status = status.Refused; text = refused_line net refusal }
+abbrev pub refused_answer : Network → BoundaryFault → Answer
+refused_answer net fault = record { status = status.Refused; text = refused_line net fault }
 
-abbrev pub plan_answer : Network → Answer
-plan_answer net = record { status = status.Ok; text = plan_text net }
+abbrev pub bad_net_answer : Draft → PlanFault → Answer
+bad_net_answer draft fault = record { status = status.BadNet; text = bad_net_line draft fault }
+
+abbrev pub plan_answer : Opening → Answer
+plan_answer o = record { status = status.Ok; text = plan_text o }
 
 -- ---- what `plan` answers
 
--- Certified where all devices are emulated; refused where the certificate fails; and else there are outside devices,
--- whose records aren't checked yet.
-abbrev pub AnswersBoundary : Network → (DeviceId → Bool) → Answer → Type 0
-AnswersBoundary net outside answer =
-    (AllEmulated net outside × (answer ≡ plan_answer net))
-    ⊎ ((refusal : Refusal) × IsRefusedBy net outside refusal × (answer ≡ refused_answer net refusal))
-    ⊎ (CertificateHolds net outside × SomeOutside net outside × (answer ≡ unbuilt_answer (codes "records")))
+-- The plan where the boundary is safe; and else what is first wrong with it.
+abbrev pub AnswersBoundary : Network → (DeviceId → Bool) → List Row → Answer → Type 0
+AnswersBoundary net outside rows answer =
+    ((o : Opening) × IsSafeOpening net outside rows o × (answer ≡ plan_answer o))
+    ⊎ ((fault : BoundaryFault) × IsFirstFault net outside rows fault × (answer ≡ refused_answer net fault))
 
--- the answer to a plan as it is read
+-- The answer to a plan as it is read: that of its boundary where it stands for an emulation, and else why it stands for none.
 abbrev pub AnswersPlan : NetText → Answer → Type 0
 AnswersPlan text answer =
-    ((e : Emulation) × IsEmulationOf text e × AnswersBoundary e.net (is_outside e) answer)
-    ⊎ (((e : Emulation) → IsEmulationOf text e → ⊥) × (answer ≡ unbuilt_answer (codes "plan text")))
+    ((e : Emulation) × PlanStandsFor text e × AnswersBoundary e.net (is_outside e) e.rows answer)
+    ⊎ ((fault : PlanFault) × IsPlanFault text fault × (answer ≡ bad_net_answer text.draft fault))
 
 -- the answer to a text
 abbrev pub AnswersText : List ℕ → Answer → Type 0
 AnswersText bytes answer =
-    ((e : Emulation) × StandsFor bytes e × AnswersBoundary e.net (is_outside e) answer)
-    ⊎ (StandsForNone bytes × (answer ≡ unbuilt_answer (codes "plan text")))
+    ((text : NetText) × ReadsPlan bytes text × AnswersPlan text answer)
+    ⊎ (ReadsNone bytes × (answer ≡ unbuilt_answer (codes "plan text")))
 
 -- The answer is that of the bytes that the name held, where the shelf tells them.
 abbrev pub AnswersHeld : Bool → Option (List ℕ) → Answer → Type 0

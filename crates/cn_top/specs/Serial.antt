@@ -1,8 +1,11 @@
 -- What `serial` means to answer, by its words and by what the named files held.
-use Rattle.std.specs.Prelude.{◌≡◌, ◌⊎◌, ℕ, ◌+◌, ◌≤◌, Bool, IsTrue, codes, List, [], ◌∷◌, length, Ok, Option, Some}
+use Rattle.std.specs.Prelude.{◌≡◌, ◌⊎◌, ℕ, ◌+◌, ◌≤◌, Bool, false, IsTrue, codes, List, [], ◌∷◌, length, Ok, Option, Some}
 use Rattle.cn_core.specs.declared.answer.Answer.{Answer as CommandAnswer}
 use Rattle.cn_core.specs.Machine.{IsRun}
-use Rattle.cn_net.specs.Network.{Network}
+use Rattle.cn_core.specs.Laws.{AllEmulated as AllAreEmulated}
+use Rattle.cn_base.specs.declared.ids.DeviceId.{DeviceId}
+use Rattle.cn_net.specs.Islands.{holds_device}
+use Rattle.cn_net.specs.Network.{Network, IsDevice}
 use Rattle.cn_net.specs.Opening.{Opening}
 use Rattle.cn_readscript.specs.Script.{script_of}
 use Rattle.cn_readscript.specs.declared.command.Command.{Command}
@@ -46,15 +49,24 @@ pub record IsRunOf (o : Opening) (commands : List Command) (run : Run) : Type 0 
 
 -- ---- what is meant
 
--- a line in place of a run: that of the plan, or else of a script that couldn't be read or isn't one
+-- some device of the opening isn't emulated
+abbrev pub SomeAreOutside : Opening → Type 0
+SomeAreOutside o = (d : DeviceId) × IsDevice o.net d × (holds_device o.emulated d ≡ false)
+
+-- the line in place of a run of the opening: speakers aren't built yet, or the script couldn't be read or isn't one
+abbrev pub ScriptsLine : Opening → List ℕ → Bool → Option (List ℕ) → (List ℕ → ℕ) → (List ℕ → ℕ) → Answer → Type 0
+ScriptsLine o script tells held before now answer =
+    (SomeAreOutside o × (answer ≡ unbuilt_answer (codes "speakers")))
+    ⊎ (AllAreEmulated o × (IsUnread script before now answer
+    ⊎ ((bytes : List ℕ) × (IsTrue tells → held ≡ Some bytes) × ScriptsNone bytes × (answer ≡ unbuilt_answer (codes "script text")))))
+
+-- a line in place of a run: that of the plan, or else of what it opens
 abbrev pub MeansLine : List ℕ → List ℕ → Bool → (List ℕ → Option (List ℕ)) → (List ℕ → ℕ) → (List ℕ → ℕ) → Answer → Type 0
 MeansLine file script tells held before now answer =
     ((IsUnread file before now answer ⊎ AnswersHeld tells (held file) answer) × IsRefusing answer)
-    ⊎ ((plan : List ℕ) × (o : Opening) × (IsTrue tells → held file ≡ Some plan) × OpensText plan o
-    × (IsUnread script before now answer
-    ⊎ ((bytes : List ℕ) × (IsTrue tells → held script ≡ Some bytes) × ScriptsNone bytes × (answer ≡ unbuilt_answer (codes "script text")))))
+    ⊎ ((plan : List ℕ) × (o : Opening) × (IsTrue tells → held file ≡ Some plan) × OpensText plan o × ScriptsLine o script tells (held script) before now answer)
 
 -- what comes of the opening and the script for which the two files stood
 abbrev pub MeansRun : List ℕ → List ℕ → Bool → (List ℕ → Option (List ℕ)) → Run → Type 0
-MeansRun file script tells held run = (plan bytes : List ℕ) × (o : Opening) × (commands : List Command) × (IsTrue tells → held file ≡ Some plan) × OpensText plan o
+MeansRun file script tells held run = (plan bytes : List ℕ) × (o : Opening) × (commands : List Command) × (IsTrue tells → held file ≡ Some plan) × OpensText plan o × AllAreEmulated o
     × (IsTrue tells → held script ≡ Some bytes) × Scripts bytes commands × IsRunOf o commands run

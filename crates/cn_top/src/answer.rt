@@ -1,12 +1,14 @@
 //! What a call means to answer.
 
-ghost use Rattle.std.specs.Prelude.{◌≡◌, IfOk};
+ghost use Rattle.std.specs.Prelude.{◌≡◌, IfOk, option_copied};
 
+use crate::fault::PlanFault;
+use crate::fault_texts::bad_net_line;
 use crate::status::Status;
 use crate::texts;
-use cn_base::Items;
+use cn_base::{Choice, DeviceId, Items, Prefix};
 use cn_cert::Refusal;
-use cn_net::Net;
+use cn_net::{Certified, Draft, Net};
 use std::alloc::{AllocError, Global};
 
 /// A status, and the text that is put for it by one put.
@@ -17,8 +19,8 @@ pub struct Answer {
 }
 
 impl Answer {
-    ghost use Rattle.cn_top.specs.Plan.{unbuilt_answer, unread_answer};
-    ghost use Rattle.cn_top.specs.Texts.{plan_text, refused_line};
+    ghost use Rattle.cn_plan.specs.Boundary.{of_certificate, of_record};
+    ghost use Rattle.cn_top.specs.Plan.{bad_net_answer, plan_answer, refused_answer, unbuilt_answer, unread_answer};
 
     /// This isn't built yet.
     pub fn unbuilt(alloc: Global, what: &str) -> Result<Answer, AllocError>
@@ -42,9 +44,20 @@ impl Answer {
         })
     }
 
+    /// The plan stands for no emulation.
+    pub fn bad_net(alloc: Global, draft: &Draft, fault: &PlanFault) -> Result<Answer, AllocError>
+        ensures { IfOk result (λ answer. answer ≡ bad_net_answer draft.now fault.now) }
+    {
+        let text = Items::make(bad_net_line(alloc, draft, fault)?);
+        Ok(Answer {
+            status: Status::BadNet,
+            text,
+        })
+    }
+
     /// The boundary isn't certified.
     pub fn refused(alloc: Global, net: &Net, refusal: &Refusal) -> Result<Answer, AllocError>
-        ensures { IfOk result (λ answer. answer ≡ record { status = Status.Refused; text = refused_line net.now refusal.now }) }
+        ensures { IfOk result (λ answer. answer ≡ refused_answer net.now (of_certificate refusal.now)) }
     {
         let text = Items::make(texts::refused_line(alloc, net, refusal)?);
         Ok(Answer {
@@ -53,11 +66,29 @@ impl Answer {
         })
     }
 
-    /// The plan is certified, and all its devices are emulated.
-    pub fn planned(alloc: Global, net: &Net) -> Result<Answer, AllocError>
-        ensures { IfOk result (λ answer. answer ≡ record { status = Status.Ok; text = plan_text net.now }) }
+    /// What is recorded of a device and a prefix isn't what the device holds.
+    pub fn unsound(
+        alloc: Global,
+        net: &Net,
+        device: DeviceId,
+        prefix: &Prefix,
+        held: Option<&Choice>,
+        wanted: Option<&Choice>,
+    ) -> Result<Answer, AllocError>
+        ensures { IfOk result (λ answer. answer ≡ refused_answer net.now (of_record device prefix.now (option_copied held.entry) (option_copied wanted.entry))) }
     {
-        let text = Items::make(texts::plan_text(alloc, net)?);
+        let text = Items::make(texts::unsound_line(alloc, net, device, prefix, held, wanted)?);
+        Ok(Answer {
+            status: Status::Refused,
+            text,
+        })
+    }
+
+    /// The boundary of the plan is safe.
+    pub fn planned(alloc: Global, certified: &Certified) -> Result<Answer, AllocError>
+        ensures { IfOk result (λ answer. answer ≡ plan_answer certified.now) }
+    {
+        let text = Items::make(texts::plan_text(alloc, certified)?);
         Ok(Answer {
             status: Status::Ok,
             text,

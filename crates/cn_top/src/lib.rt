@@ -8,8 +8,11 @@
 #![tactic(auto)]
 
 mod answer;
+mod fault;
+mod fault_texts;
 mod form;
 mod plan;
+mod rows;
 mod selection;
 mod serial;
 mod status;

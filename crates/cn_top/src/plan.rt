@@ -1,77 +1,129 @@
 //! What is made of a plan.
 
 ghost use Rattle.std.specs.Prelude.{◌≡◌, ◌≤◌, All, IfOk, codes, length};
-ghost use Rattle.cn_net.specs.Islands.{outside_of};
+ghost use Rattle.cn_net.specs.Drafted.{draft_of};
 ghost use Rattle.cn_net.specs.Network.{IsDevice};
 ghost use Rattle.cn_outside.specs.Shelf.{RisesOnlyAt, SameAtEach};
 ghost use Rattle.cn_top.specs.Emulation.{plan_limit};
 ghost use Rattle.cn_top.specs.Form.{plan_form};
 ghost use Rattle.cn_top.specs.Means.{Means};
-ghost use Rattle.cn_top.specs.Plan.{unbuilt_answer};
+ghost use Rattle.cn_top.specs.Plan.{bad_net_answer, unbuilt_answer};
+ghost use Rattle.cn_plan.specs.Limits.{named};
 ghost use Rattle.cn_top.specs.declared.plan.Planned.TheVariants.{Line};
-ghost use Rattle.cn_top.specs.Planned.{PlansBoundary, PlansHeld, PlansPlan, PlansText};
+ghost use Rattle.cn_top.specs.Planned.{PlansChosen, PlansHeld, PlansPlan, PlansText};
 
 use crate::answer::Answer;
-use crate::selection::{emulated_of, outside_device};
-use cn_cert::first_refusal;
-use cn_island::islands;
-use cn_net::{Certified, DeviceSet, Net, NetAnswer};
+use crate::fault::{NameAnswer, PlanFault};
+use crate::rows::rows_of;
+use crate::selection::selection_of;
+use cn_net::{Draft, Net, NetAnswer};
 use cn_outside::{ReadAnswer, Shelf};
+use cn_plan::{PlanAnswer, Selection, plan};
 use cn_readnet::{NetText, read_net};
+use cn_record::{Recorded, Saved, SavedFault};
 use cn_text::TextAnswer;
 use std::alloc::{AllocError, Global};
 
 /// The longest text of a plan, in octets.
 const PLAN_LIMIT: usize = 16_777_216;
 
-/// What is made of a plan: the line to answer, or the opening of an emulation of all its devices.
+/// What is made of a plan: the line to answer, or its certified opening with sound records.
 #[derive(Drop)]
 pub enum Planned {
     Line(Answer),
-    Emulated(Certified),
+    Recorded(Recorded),
 }
 
-/// What is made of a network and its emulated devices.
-fn boundary(alloc: Global, net: Net, emulated: DeviceSet) -> Result<Planned, AllocError>
-    requires { All (IsDevice net) emulated }
-    ensures { IfOk result (PlansBoundary net (outside_of emulated)) }
-{
-    net.valid();
-    let _ = emulated.items();
-    let labels = islands(alloc, &net, &emulated)?;
-    if let Some(refusal) = first_refusal(alloc, &net, &emulated, &labels)? {
-        return Ok(Planned::Line(Answer::refused(alloc, &net, &refusal)?));
-    }
-    match outside_device(&net, &emulated) {
-        None => {
-            let certified = Certified::make(net, emulated, labels);
-            certified.valid();
-            Ok(Planned::Emulated(certified))
-        }
-        Some(_) => Ok(Planned::Line(Answer::unbuilt(alloc, "records")?)),
-    }
-}
-
-// The plan isn't in the form that is read.
+// The text isn't in the form that is read.
 fn no_plan(alloc: Global) -> Result<Planned, AllocError>
     ensures { IfOk result (λ planned. planned ≡ Line (unbuilt_answer (codes "plan text"))) }
 {
     Ok(Planned::Line(Answer::unbuilt(alloc, "plan text")?))
 }
 
+// The plan stands for no emulation.
+fn bad_net(alloc: Global, draft: &Draft, fault: &PlanFault) -> Result<Planned, AllocError>
+    ensures { IfOk result (λ planned. planned ≡ Line (bad_net_answer draft.now fault.now)) }
+{
+    Ok(Planned::Line(Answer::bad_net(alloc, draft, fault)?))
+}
+
+/// What is made of a network, the devices that are chosen, and rows of what is recorded.
+fn chosen(
+    alloc: Global,
+    net: Net,
+    selection: Selection,
+    saved: Saved,
+    draft: &Draft,
+) -> Result<Planned, AllocError>
+    requires { All (IsDevice net) (named selection) }
+    ensures { IfOk result (PlansChosen net selection saved draft.now) }
+{
+    match plan(alloc, net, selection, saved) {
+        Ok(plan) => Ok(Planned::Recorded(plan.recorded)),
+        Err(PlanAnswer::TooMany { what, count }) => {
+            bad_net(alloc, draft, &PlanFault::TooMany { what, count })
+        }
+        Err(PlanAnswer::Refused { net, refusal }) => {
+            Ok(Planned::Line(Answer::refused(alloc, &net, &refusal)?))
+        }
+        Err(
+            PlanAnswer::Unsound {
+                net,
+                device,
+                prefix,
+                held,
+                wanted,
+            },
+        ) => Ok(Planned::Line(Answer::unsound(
+            alloc,
+            &net,
+            device,
+            &prefix,
+            held.as_ref(),
+            wanted.as_ref(),
+        )?)),
+        Err(PlanAnswer::Memory) => Err(AllocError),
+    }
+}
+
+/// What is made of a network and of the names and rows of its plan.
+fn named(alloc: Global, net: Net, text: &NetText) -> Result<Planned, AllocError>
+    requires { draft_of net ≡ text.now.draft }
+    ensures { IfOk result (PlansPlan text.now) }
+{
+    net.valid();
+    let selection = match selection_of(alloc, &net, &text.selection) {
+        Ok(selection) => selection,
+        Err(NameAnswer::Unknown(name)) => {
+            return bad_net(alloc, &text.draft, &PlanFault::Unknown(name));
+        }
+        Err(NameAnswer::Memory) => return Err(AllocError),
+    };
+    let rows = match rows_of(alloc, &net, text.rows.items()) {
+        Ok(rows) => rows,
+        Err(NameAnswer::Unknown(name)) => {
+            return bad_net(alloc, &text.draft, &PlanFault::Unknown(name));
+        }
+        Err(NameAnswer::Memory) => return Err(AllocError),
+    };
+    match Saved::make(rows) {
+        Ok(saved) => chosen(alloc, net, selection, saved, &text.draft),
+        Err(repeat) => {
+            let SavedFault { device, prefix } = repeat;
+            bad_net(alloc, &text.draft, &PlanFault::Repeat { device, prefix })
+        }
+    }
+}
+
 /// What is made of a plan as it is read.
 fn plan_read(alloc: Global, text: &NetText) -> Result<Planned, AllocError>
     ensures { IfOk result (PlansPlan text.now) }
 {
-    let net = match Net::make(alloc, &text.draft) {
-        Ok(net) => net,
-        Err(NetAnswer::Fault(_)) => return no_plan(alloc),
-        Err(NetAnswer::Memory) => return Err(AllocError),
-    };
-    net.valid();
-    match emulated_of(alloc, &net, text.emulate.items())? {
-        Some(emulated) => boundary(alloc, net, emulated),
-        None => no_plan(alloc),
+    match Net::make(alloc, &text.draft) {
+        Ok(net) => named(alloc, net, text),
+        Err(NetAnswer::Fault(fault)) => bad_net(alloc, &text.draft, &PlanFault::Net(fault)),
+        Err(NetAnswer::Memory) => Err(AllocError),
     }
 }
 
@@ -111,6 +163,6 @@ pub fn plan_means<S: Shelf>(alloc: Global, file: &str, shelf: &mut S) -> Result<
 {
     match plan_held(alloc, file, shelf)? {
         Planned::Line(answer) => Ok(answer),
-        Planned::Emulated(certified) => Answer::planned(alloc, certified.net()),
+        Planned::Recorded(recorded) => Answer::planned(alloc, recorded.certified()),
     }
 }

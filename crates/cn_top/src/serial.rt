@@ -4,16 +4,18 @@ ghost use Rattle.std.specs.Prelude.{◌≡◌, ◌≤◌, IfOk, length};
 ghost use Rattle.cn_core.specs.Laws.{AllEmulated as AllAreEmulated};
 ghost use Rattle.cn_outside.specs.Shelf.{RisesOnlyAt, SameAtEach};
 ghost use Rattle.cn_top.specs.Ending.{RisesOnlyAtTwo};
-ghost use Rattle.cn_top.specs.Meant.{IsMeant, ScriptHeldMeans, ScriptMeans};
+ghost use Rattle.cn_top.specs.Meant.{IsMeant, OpenedMeans, ScriptHeldMeans, ScriptMeans};
 ghost use Rattle.cn_top.specs.Serial.{IsRunOf, answer_texts, script_limit};
 
 use crate::answer::Answer;
 use crate::plan::{Planned, plan_held};
+use crate::selection::outside_device;
 use cn_base::Items;
 use cn_core::Answer as CommandAnswer;
 use cn_net::{Certified, Net};
 use cn_outside::{ReadAnswer, Shelf};
 use cn_readscript::{Command, Script, read_script};
+use cn_record::Recorded;
 use cn_report::print_answer;
 use cn_serial::run_serial;
 use cn_text::TextAnswer;
@@ -113,6 +115,26 @@ fn script_held<S: Shelf>(
     }
 }
 
+// What is meant by an opening and the script that a name holds. The script is read only where every device is
+// emulated.
+fn opened<S: Shelf>(
+    alloc: Global,
+    recorded: Recorded,
+    script: &str,
+    shelf: &mut S,
+) -> Result<Meant, AllocError>
+    ensures means { IfOk result (OpenedMeans recorded.opening script.now S.tells (S.held shelf.old script.now) (S.read_faults shelf.old) (S.read_faults shelf.new)) }
+    ensures held { SameAtEach (S.held shelf.old) (S.held shelf.new) }
+    ensures reads { RisesOnlyAt script.now (S.read_faults shelf.old) (S.read_faults shelf.new) }
+    ensures writes { SameAtEach (S.write_faults shelf.old) (S.write_faults shelf.new) }
+{
+    let (certified, _) = recorded.parts();
+    match outside_device(&certified) {
+        Some(_) => Ok(Meant::Line(Answer::unbuilt(alloc, "speakers")?)),
+        None => script_held(alloc, certified, script, shelf),
+    }
+}
+
 /// What `serial FILE SCRIPT TRACE` means to answer. The script is read only where the plan opens an
 /// emulation.
 pub fn serial_means<S: Shelf>(
@@ -128,6 +150,6 @@ pub fn serial_means<S: Shelf>(
 {
     match plan_held(alloc, file, shelf)? {
         Planned::Line(answer) => Ok(Meant::Line(answer)),
-        Planned::Emulated(certified) => script_held(alloc, certified, script, shelf),
+        Planned::Recorded(recorded) => opened(alloc, recorded, script, shelf),
     }
 }

@@ -171,14 +171,14 @@ fn plans_of_five_devices(rt: HostRuntime) -> Result<(), Fail> {
         (
             "\"t1\", \"l1\", \"l2\", \"s1\"",
             "\"10.1.1.0/24\"",
-            Status::Unbuilt,
-            "not built yet: records\n",
+            Status::Refused,
+            "refused record t2 10.1.2.0/24: held none wanted own path - origin igp\n",
         ),
         (
             "\"t1\", \"t9\"",
             "\"10.1.1.0/24\"",
-            Status::Unbuilt,
-            "not built yet: plan text\n",
+            Status::BadNet,
+            "bad net: unknown name t9\n",
         ),
         (
             ALL,
@@ -190,6 +190,44 @@ fn plans_of_five_devices(rt: HostRuntime) -> Result<(), Fail> {
         let plan = plan(alloc, emulate, own)?;
         answers(&rt, alloc, &["plan", "q.toml"], plan.as_str(), status, text)?;
     }
+    Ok(())
+}
+
+// What t2 holds of its own prefix.
+const RECORD: &str = "
+[[record]]
+device = \"t2\"
+prefix = \"10.1.2.0/24\"
+path = \"-\"
+origin = \"igp\"
+";
+
+const ONE_OUTSIDE: &str =
+    "certified emulated 4 islands 1\nemulate t1\nemulate l1\nemulate l2\nemulate s1\nisland t2: t2\n";
+
+// A plan with an outside device: `plan` shows it, and no run has speakers yet.
+#[test]
+fn plan_with_a_record(rt: HostRuntime) -> Result<(), Fail> {
+    let alloc = rt.alloc();
+    let front = plan(alloc, "\"t1\", \"l1\", \"l2\", \"s1\"", "\"10.1.1.0/24\"")?;
+    let text = format!(in alloc; "{front}{RECORD}")?;
+    answers(
+        &rt,
+        alloc,
+        &["plan", "q.toml"],
+        text.as_str(),
+        Status::Ok,
+        ONE_OUTSIDE,
+    )?;
+    let text = format!(in alloc; "{front}{RECORD}{RECORD}")?;
+    answers(
+        &rt,
+        alloc,
+        &["plan", "q.toml"],
+        text.as_str(),
+        Status::BadNet,
+        "bad net: record t2 10.1.2.0/24 twice\n",
+    )?;
     Ok(())
 }
 

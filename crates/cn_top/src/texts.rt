@@ -1,14 +1,17 @@
 //! The texts that are put.
 
-ghost use Rattle.std.specs.Prelude.{◌≡◌, ◌++◌, IfOk, OnOk, codes};
-ghost use Rattle.std.specs.Fmt.{decimal};
+ghost use Rattle.std.specs.Prelude.{◌≡◌, ◌++◌, IfOk, OnOk, codes, option_copied};
+ghost use Rattle.std.specs.List.{flat_map};
 ghost use Rattle.cn_cert.specs.declared.refusal.Refusal.TheVariants.{Facing, Origins};
 ghost use Rattle.cn_net.specs.Network.{name_of};
-ghost use Rattle.cn_top.specs.Texts.{usage_line, unbuilt_line, unread_line, emulate_line, plan_text, refusal_text, refused_line, side_word, numbered, paired, shared};
+ghost use Rattle.cn_plan.specs.Boundary.{of_certificate, of_record};
+ghost use Rattle.cn_top.specs.Texts.{usage_line, unbuilt_line, unread_line, counts_line, emulate_line, held_text, island_line, plan_text, refusal_text, refused_line, side_word, numbered, shared};
 
-use cn_base::{Asn, DeviceId, Prefix};
+use crate::selection::{island_labels, members_of};
+use cn_base::{Asn, Choice, DeviceId, Prefix};
 use cn_cert::{Refusal, Side};
-use cn_net::{Device, Net};
+use cn_net::{Certified, Net};
+use cn_report::{put_choice, put_name, put_pair};
 use cn_text::{put_number, put_prefix};
 use std::alloc::{AllocError, Global};
 
@@ -37,25 +40,6 @@ pub fn unread_line(alloc: Global, name: &str) -> Result<Vec<u8>, AllocError>
     text.extend_from_slice(name.as_bytes())?;
     text.push(b'\n')?;
     Ok(text)
-}
-
-/// The name of a device, and nothing where there is no such device.
-fn put_name(text: &mut Vec<u8>, net: &Net, d: DeviceId) -> Result<(), AllocError>
-    ensures { OnOk result (text.new.items ≡ text.old.items ++ name_of net.now d) }
-{
-    match net.device(d) {
-        Some(device) => text.extend_from_slice(device.name.text().as_bytes()),
-        None => Ok(()),
-    }
-}
-
-/// The names of two devices.
-fn put_pair(text: &mut Vec<u8>, net: &Net, a: DeviceId, b: DeviceId) -> Result<(), AllocError>
-    ensures { OnOk result (text.new.items ≡ text.old.items ++ paired net.now a b) }
-{
-    put_name(text, net, a)?;
-    text.extend_from_slice(b" ")?;
-    put_name(text, net, b)
 }
 
 /// A device and its AS number.
@@ -164,9 +148,9 @@ fn put_refusal(
     }
 }
 
-/// The line of a refused plan.
+/// The line of a boundary that isn't certified.
 pub fn refused_line(alloc: Global, net: &Net, refusal: &Refusal) -> Result<Vec<u8>, AllocError>
-    ensures { IfOk result (λ text. text.items ≡ refused_line net.now refusal.now) }
+    ensures { IfOk result (λ text. text.items ≡ refused_line net.now (of_certificate refusal.now)) }
 {
     let mut text = Vec::from_slice(alloc, b"refused ")?;
     put_refusal(alloc, &mut text, net, refusal)?;
@@ -174,26 +158,130 @@ pub fn refused_line(alloc: Global, net: &Net, refusal: &Refusal) -> Result<Vec<u
     Ok(text)
 }
 
-fn put_device(text: &mut Vec<u8>, device: &Device) -> Result<(), AllocError>
-    ensures { OnOk result (text.new.items ≡ text.old.items ++ emulate_line device.now) }
+/// What a device holds or its record says, `none` where that is nothing.
+fn put_held(
+    alloc: Global,
+    text: &mut Vec<u8>,
+    net: &Net,
+    held: Option<&Choice>,
+) -> Result<(), AllocError>
+    ensures { OnOk result (text.new.items ≡ text.old.items ++ held_text net.now (option_copied held.entry)) }
+{
+    match held {
+        None => text.extend_from_slice(b"none"),
+        Some(choice) => put_choice(alloc, text, net, choice),
+    }
+}
+
+/// The line of a record that isn't sound.
+pub fn unsound_line(
+    alloc: Global,
+    net: &Net,
+    device: DeviceId,
+    prefix: &Prefix,
+    held: Option<&Choice>,
+    wanted: Option<&Choice>,
+) -> Result<Vec<u8>, AllocError>
+    ensures { IfOk result (λ text. text.items ≡ refused_line net.now (of_record device prefix.now (option_copied held.entry) (option_copied wanted.entry))) }
+{
+    let mut text = Vec::from_slice(alloc, b"refused record ")?;
+    put_name(&mut text, net, device)?;
+    text.extend_from_slice(b" ")?;
+    put_prefix(alloc, &mut text, prefix)?;
+    text.extend_from_slice(b": held ")?;
+    put_held(alloc, &mut text, net, held)?;
+    text.extend_from_slice(b" wanted ")?;
+    put_held(alloc, &mut text, net, wanted)?;
+    text.push(b'\n')?;
+    Ok(text)
+}
+
+fn put_device(text: &mut Vec<u8>, net: &Net, device: DeviceId) -> Result<(), AllocError>
+    ensures { OnOk result (text.new.items ≡ text.old.items ++ emulate_line net.now device) }
 {
     text.extend_from_slice(b"emulate ")?;
-    text.extend_from_slice(device.name.text().as_bytes())?;
-    text.push(b'\n')?;
+    put_name(text, net, device)?;
+    text.extend_from_slice(b"\n")
+}
+
+/// Appends names, each after a space.
+fn put_names(text: &mut Vec<u8>, net: &Net, devices: &[DeviceId]) -> Result<(), AllocError>
+    ensures { OnOk result (text.new.items ≡ text.old.items ++ flat_map (λ d. codes " " ++ name_of net.now d) devices.now) }
+{
+    for device in devices {
+        text.extend_from_slice(b" ")?;
+        put_name(text, net, *device)?;
+    }
     Ok(())
 }
 
-/// The text of a certified plan whose devices are all emulated.
-pub fn plan_text(alloc: Global, net: &Net) -> Result<Vec<u8>, AllocError>
-    ensures { IfOk result (λ text. text.items ≡ plan_text net.now) }
+/// An island, by its label, with its devices.
+fn put_island(
+    alloc: Global,
+    text: &mut Vec<u8>,
+    certified: &Certified,
+    island: DeviceId,
+) -> Result<(), AllocError>
+    ensures { OnOk result (text.new.items ≡ text.old.items ++ island_line certified.now island) }
 {
-    let count = net.count().to_string(alloc)?;
-    let mut text = Vec::from_slice(alloc, b"certified emulated ")?;
-    text.extend_from_slice(count.as_bytes())?;
-    text.extend_from_slice(b" islands 0\n")?;
-    let devices = net.devices();
+    text.extend_from_slice(b"island ")?;
+    put_name(text, certified.net(), island)?;
+    text.extend_from_slice(b":")?;
+    let members = members_of(alloc, certified, island)?;
+    put_names(text, certified.net(), &members)?;
+    text.extend_from_slice(b"\n")
+}
+
+/// How many devices are emulated, and how many islands there are.
+fn put_counts(
+    alloc: Global,
+    text: &mut Vec<u8>,
+    emulated: usize,
+    islands: usize,
+) -> Result<(), AllocError>
+    ensures { OnOk result (text.new.items ≡ text.old.items ++ counts_line emulated islands) }
+{
+    text.extend_from_slice(b"certified emulated ")?;
+    put_number(alloc, text, emulated as u64)?;
+    text.extend_from_slice(b" islands ")?;
+    put_number(alloc, text, islands as u64)?;
+    text.extend_from_slice(b"\n")
+}
+
+/// The lines of the emulated devices.
+fn put_devices(text: &mut Vec<u8>, net: &Net, devices: &[DeviceId]) -> Result<(), AllocError>
+    ensures { OnOk result (text.new.items ≡ text.old.items ++ flat_map (emulate_line net.now) devices.now) }
+{
     for device in devices {
-        put_device(&mut text, device)?;
+        put_device(text, net, *device)?;
     }
+    Ok(())
+}
+
+/// The lines of the islands.
+fn put_islands(
+    alloc: Global,
+    text: &mut Vec<u8>,
+    certified: &Certified,
+    islands: &[DeviceId],
+) -> Result<(), AllocError>
+    ensures { OnOk result (text.new.items ≡ text.old.items ++ flat_map (island_line certified.now) islands.now) }
+{
+    for island in islands {
+        put_island(alloc, text, certified, *island)?;
+    }
+    Ok(())
+}
+
+/// The text of a plan whose boundary is safe.
+pub fn plan_text(alloc: Global, certified: &Certified) -> Result<Vec<u8>, AllocError>
+    ensures { IfOk result (λ text. text.items ≡ plan_text certified.now) }
+{
+    let emulated = certified.emulated().items();
+    let islands = island_labels(alloc, certified)?;
+    let mut text = Vec::new(alloc);
+    put_counts(alloc, &mut text, emulated.len(), islands.len())?;
+    put_devices(&mut text, certified.net(), emulated)?;
+    put_islands(alloc, &mut text, certified, &islands)?;
     Ok(text)
 }

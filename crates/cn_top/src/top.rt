@@ -3,14 +3,18 @@
 ghost use Rattle.std.specs.Prelude.{◌≡◌, ◌≢◌, ◌≤◌, ◌⊎◌, ◌<◌, ◌++◌, ℕ, List, map, string_bytes, MatchResult, IsTrue};
 ghost use Rattle.std.specs.List.{concat};
 ghost use Rattle.cn_outside.specs.Shelf.{RisesOnlyAt, SameAtEach, SameBut};
-ghost use Rattle.cn_cert.specs.declared.refusal.Refusal.{Refusal as RefusalValue};
 ghost use Rattle.cn_net.specs.Opening.{Opening};
 ghost use Rattle.cn_readscript.specs.declared.command.Command.{Command};
 ghost use Rattle.cn_top.specs.declared.serial.Run.{Run as RunValue};
-ghost use Rattle.cn_top.specs.Emulation.{Emulation, is_outside, AllEmulated, CertificateFails, IsRefusedBy};
+ghost use Rattle.cn_plan.specs.Boundary.{BoundaryFault, IsFirstFault, IsSafe, IsSafeOpening, IsUnsafe};
+ghost use Rattle.cn_readnet.specs.declared.plan.NetText.{NetText};
+ghost use Rattle.cn_top.specs.Emulation.{Emulation, is_outside};
+ghost use Rattle.cn_top.specs.Faults.{IsPlanFault};
+ghost use Rattle.cn_top.specs.FaultTexts.{bad_net_line};
+ghost use Rattle.cn_top.specs.declared.fault.PlanFault.{PlanFault};
 ghost use Rattle.cn_top.specs.Ending.{Ends, EndsRun, KeepsNames, Outcome, PutsAll, RisesOnlyFor, WritesOnlyFor};
 ghost use Rattle.cn_top.specs.Form.{form_of, usage_form};
-ghost use Rattle.cn_top.specs.Outcome.{AsksForPlan, AsksForRun, HoldsTrace, IsUnbuilt, IsUnlessMemory, MeetsNoFault, Plans, ReadsName, WroteBadly};
+ghost use Rattle.cn_top.specs.Outcome.{AsksForPlan, AsksForRun, HoldsTrace, IsUnbuilt, IsUnlessMemory, MeetsNoFault, Plans, Reads, ReadsName, WroteBadly};
 ghost use Rattle.cn_top.specs.Serial.{IsRunOf};
 ghost use Rattle.cn_top.specs.Texts.{plan_text, refused_line, unbuilt_line, unread_line, usage_line};
 
@@ -113,14 +117,14 @@ fn run<S: Shelf, O: Out>(alloc: Global, words: &[String], shelf: &mut S, out: &m
 /// Does what the words ask for, and puts the answer. The words are the arguments after the program's
 /// name.
 ///
-/// `plan FILE` reads a plan, checks the certificate of its boundary and puts the plan or the first
-/// refusal, by one put.
+/// `plan FILE` reads a plan, checks the certificate of its boundary, and the records of the devices behind
+/// it against their one stable state, and puts the plan or what is first wrong, by one put.
 ///
 /// `serial FILE SCRIPT TRACE` reads a plan and a script, runs the script in the serial order on an
 /// emulation of all devices of the plan, writes the trace of what happened under TRACE, and then puts the
 /// answer to each command, one put for each. A `pull` that is answered quiet shows the routes (RFC 4271,
-/// section 3.2) that every device holds in a stable state of the network, and every other stable state
-/// gives the emulated devices the same routes; a `pull` that is answered again names what is first pending.
+/// section 3.2) that every device holds in the one stable state of the network; a `pull` that is answered
+/// again names what is first pending.
 /// Where the plan or the script can't be run, one line is put, and no file is touched.
 ///
 /// All reads come before all writes. Each "exactly where" of the clauses yields to want of memory
@@ -152,12 +156,13 @@ pub fn command<S: Shelf, O: Out>(
     ensures write_fault { result ≡ Status.WriteFault → (O.faults out.old < O.faults out.new)
         ⊎ WroteBadly (form_of (map string_bytes words.now)) (S.write_faults shelf.old) (S.write_faults shelf.new) }
 
-    // 0 of a plan comes exactly where the file stands for a network whose devices are all emulated.
+    // 0 of a plan comes exactly where the file stands for a network with a safe boundary: it is certified, and the
+    // records of the outside devices are sound.
     ensures ok { IsTrue S.tells → result ≡ Status.Ok → AsksForPlan (form_of (map string_bytes words.now))
-        → (e : Emulation) × Plans (form_of (map string_bytes words.now)) (S.held shelf.old) e
-        × AllEmulated e.net (is_outside e) × (IsTrue O.tells → O.taken out.new ≡ O.taken out.old ++ plan_text e.net) }
-    ensures all_emulated { (e : Emulation) → IsTrue S.tells → AsksForPlan (form_of (map string_bytes words.now))
-        → Plans (form_of (map string_bytes words.now)) (S.held shelf.old) e → AllEmulated e.net (is_outside e)
+        → (e : Emulation) × (o : Opening) × Plans (form_of (map string_bytes words.now)) (S.held shelf.old) e
+        × IsSafe e.net (is_outside e) e.rows × IsSafeOpening e.net (is_outside e) e.rows o × (IsTrue O.tells → O.taken out.new ≡ O.taken out.old ++ plan_text o) }
+    ensures planned { (e : Emulation) → IsTrue S.tells → AsksForPlan (form_of (map string_bytes words.now))
+        → Plans (form_of (map string_bytes words.now)) (S.held shelf.old) e → IsSafe e.net (is_outside e) e.rows
         → MeetsNoFault (form_of (map string_bytes words.now)) (S.read_faults shelf.old) (S.read_faults shelf.new) (S.write_faults shelf.old) (S.write_faults shelf.new) (O.faults out.old) (O.faults out.new)
         → IsUnlessMemory result Status.Ok }
 
@@ -171,16 +176,25 @@ pub fn command<S: Shelf, O: Out>(
         → MeetsNoFault (form_of (map string_bytes words.now)) (S.read_faults shelf.old) (S.read_faults shelf.new) (S.write_faults shelf.old) (S.write_faults shelf.new) (O.faults out.old) (O.faults out.new)
         → IsUnlessMemory result Status.Ok }
 
-    // 1 comes exactly where the plan's file stands for a network whose certificate fails, and its first refusal is
-    // put.
-    ensures refused { IsTrue S.tells → result ≡ Status.Refused → (e : Emulation) × (refusal : RefusalValue)
-        × Plans (form_of (map string_bytes words.now)) (S.held shelf.old) e × CertificateFails e.net (is_outside e) × IsRefusedBy e.net (is_outside e) refusal
-        × (IsTrue O.tells → O.taken out.new ≡ O.taken out.old ++ refused_line e.net refusal) }
-    ensures uncertified { (e : Emulation) → IsTrue S.tells → Plans (form_of (map string_bytes words.now)) (S.held shelf.old) e → CertificateFails e.net (is_outside e)
+    // 1 comes exactly where the plan's file stands for a network whose boundary isn't safe, and what is first wrong
+    // with it is put.
+    ensures refused { IsTrue S.tells → result ≡ Status.Refused → (e : Emulation) × (fault : BoundaryFault)
+        × Plans (form_of (map string_bytes words.now)) (S.held shelf.old) e × IsUnsafe e.net (is_outside e) e.rows × IsFirstFault e.net (is_outside e) e.rows fault
+        × (IsTrue O.tells → O.taken out.new ≡ O.taken out.old ++ refused_line e.net fault) }
+    ensures unsafe_boundary { (e : Emulation) → IsTrue S.tells → Plans (form_of (map string_bytes words.now)) (S.held shelf.old) e → IsUnsafe e.net (is_outside e) e.rows
         → MeetsNoFault (form_of (map string_bytes words.now)) (S.read_faults shelf.old) (S.read_faults shelf.new) (S.write_faults shelf.old) (S.write_faults shelf.new) (O.faults out.old) (O.faults out.new)
         → IsUnlessMemory result Status.Refused }
 
-    // 9 comes exactly where a command, a form of plans or scripts or the check of records isn't built yet.
+    // 7 comes exactly where a plan is read from the plan's file that stands for no emulation, and the first reason is
+    // put.
+    ensures bad_net { IsTrue S.tells → result ≡ Status.BadNet → (text : NetText) × (fault : PlanFault)
+        × Reads (form_of (map string_bytes words.now)) (S.held shelf.old) text × IsPlanFault text fault
+        × (IsTrue O.tells → O.taken out.new ≡ O.taken out.old ++ bad_net_line text.draft fault) }
+    ensures no_net { (text : NetText) (fault : PlanFault) → IsTrue S.tells → Reads (form_of (map string_bytes words.now)) (S.held shelf.old) text → IsPlanFault text fault
+        → MeetsNoFault (form_of (map string_bytes words.now)) (S.read_faults shelf.old) (S.read_faults shelf.new) (S.write_faults shelf.old) (S.write_faults shelf.new) (O.faults out.old) (O.faults out.new)
+        → IsUnlessMemory result Status.BadNet }
+
+    // 9 comes exactly where a command, a form of plans or scripts or a run with outside devices isn't built yet.
     ensures unbuilt { IsTrue S.tells → result ≡ Status.Unbuilt → (what : List ℕ) × IsUnbuilt (form_of (map string_bytes words.now)) (S.held shelf.old) what
         × (IsTrue O.tells → O.taken out.new ≡ O.taken out.old ++ unbuilt_line what) }
     ensures not_built { (what : List ℕ) → IsTrue S.tells → IsUnbuilt (form_of (map string_bytes words.now)) (S.held shelf.old) what
@@ -188,7 +202,7 @@ pub fn command<S: Shelf, O: Out>(
         → IsUnlessMemory result Status.Unbuilt }
 
     // The other statuses are for commands that aren't built yet.
-    ensures never { (result ≢ Status.BadText) × (result ≢ Status.BadNet) × (result ≢ Status.BadTrace) }
+    ensures never { (result ≢ Status.BadText) × (result ≢ Status.BadTrace) }
 
     // All names but that of a run's trace hold what they held, and that too unless the status is 0, 4 or 5; and
     // no count rises but those that may.
