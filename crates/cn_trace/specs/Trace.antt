@@ -1,20 +1,16 @@
 -- The trace of a history. Every line ends with one line feed.
 use Rattle.std.specs.Prelude.{ℕ, codes, List, [], ◌∷◌, ◌++◌, flat_map}
 use Rattle.std.specs.Fmt.{decimal}
-use Rattle.cn_base.specs.declared.ids.DeviceId.{DeviceId}
 use Rattle.cn_net.specs.Network.{Network, name_of}
 use Rattle.cn_core.specs.declared.event.Event.{Event}
 use Rattle.cn_core.specs.declared.event.Event.TheVariants.{Receive, Decide, Send}
 use Rattle.cn_core.specs.declared.event.Step.{Step}
 use Rattle.cn_core.specs.declared.event.Step.TheVariants.{Work, Mark}
+use Rattle.cn_report.specs.Standing.{paired}
 use Rattle.cn_text.specs.Printed.{prefix_text}
 
 abbrev pub newline : List ℕ
 newline = 10 ∷ []
-
--- the two devices of a session, the sender first
-abbrev pub paired : Network → DeviceId → DeviceId → List ℕ
-paired net from to = name_of net from ++ codes " " ++ name_of net to
 
 -- what happened: a message received, a decision made, or a message sent
 abbrev pub event_text : Network → Event → List ℕ

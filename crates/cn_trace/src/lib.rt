@@ -2,8 +2,8 @@
 //! order in which they happened.
 //!
 //! The crates above use `write_trace`, whose result is `trace_text` of `specs/Trace.antt`; `step_line`
-//! there is the line of one step. It cites a device's name from `cn_net` (`name_of`) and the one spelling
-//! of a prefix from `cn_text` (`prefix_text`). Which histories there are is said in `cn_core`; where the
+//! there is the line of one step. It cites a device's name from `cn_net` (`name_of`), the two names of
+//! a session from `cn_report` (`paired`), and the one spelling of a prefix from `cn_text` (`prefix_text`). Which histories there are is said in `cn_core`; where the
 //! text is kept is left to the crates above.
 #![tactic(auto)]
 

@@ -1,33 +1,13 @@
 //! The lines of a trace, which are put at the end of one text.
 
 ghost use Rattle.std.specs.Prelude.{◌≡◌, ◌++◌, IfOk, OnOk};
-ghost use Rattle.cn_net.specs.Network.{name_of};
-ghost use Rattle.cn_trace.specs.Trace.{event_text, paired, step_line, step_text, trace_text};
+ghost use Rattle.cn_trace.specs.Trace.{event_text, step_line, step_text, trace_text};
 
-use cn_base::DeviceId;
 use cn_core::{Event, Step};
 use cn_net::Net;
+use cn_report::{put_name, put_pair};
 use cn_text::{put_number, put_prefix};
 use std::alloc::{AllocError, Global};
-
-/// The name of a device, and nothing where there is no such device.
-fn put_name(text: &mut Vec<u8>, net: &Net, d: DeviceId) -> Result<(), AllocError>
-    ensures { OnOk result (text.new.items ≡ text.old.items ++ name_of net.now d) }
-{
-    match net.device(d) {
-        Some(device) => text.extend_from_slice(device.name.text().as_bytes()),
-        None => Ok(()),
-    }
-}
-
-/// The two devices of a session, the sender first.
-fn put_pair(text: &mut Vec<u8>, net: &Net, from: DeviceId, to: DeviceId) -> Result<(), AllocError>
-    ensures { OnOk result (text.new.items ≡ text.old.items ++ paired net.now from to) }
-{
-    put_name(text, net, from)?;
-    text.extend_from_slice(b" ")?;
-    put_name(text, net, to)
-}
 
 /// What happened, without a line end.
 fn put_event(alloc: Global, text: &mut Vec<u8>, net: &Net, event: &Event) -> Result<(), AllocError>
