@@ -6,7 +6,7 @@ use Rattle.std.specs.Ordering.{nat_cmp, on, then_cmp}
 use Rattle.std.specs.declared.cmp.Ordering.{Ordering}
 use Rattle.std.proofs.lemmas.Bool.Decides.{nat_tests}
 use Rattle.std.proofs.lemmas.List.{map-append}
-use Rattle.std.proofs.lemmas.List.Elements.{All-append, All-cons, All-filter, All-head, All-map, All-nil, All-tail}
+use Rattle.std.proofs.lemmas.List.Elements.{All-append, All-cons, All-filter, All-head, All-map, All-nil, All-tail, filter_passes}
 use Rattle.std.proofs.lemmas.List.Folds.{list_any-append}
 use Rattle.std.proofs.lemmas.List.Kept.{AllPairs-cons, AllPairs-filter}
 use Rattle.cn_base.specs.declared.ids.DeviceId.{DeviceId}
@@ -15,7 +15,7 @@ use Rattle.cn_net.specs.Network.{Network, IsDevice, device_ids, is_linked, peers
 use Rattle.cn_net.specs.Opening.{Opening}
 use Rattle.cn_core.specs.declared.session.Session.{Session}
 use Rattle.cn_core.specs.Laws.{ends_of, links_into}
-use Rattle.cn_core.specs.Machine.{first_sessions, receivers}
+use Rattle.cn_core.specs.Start.{first_sessions, receivers}
 use Rattle.cn_core.specs.State.{empty_session, is_session}
 use Rattle.cn_net.proofs.Keys.{list_any-map}
 use Rattle.cn_net.proofs.Peers.{all_devices, devices_ascend, only_devices, peers_ascend}
@@ -95,6 +95,18 @@ module _ (o : Opening) where
   pub links_within : All (λ (e : DeviceId × DeviceId). IsDevice o.net e.0 × IsDevice o.net e.1) (links_into o)
   unfolding links_into
   links_within = rows_within (device_ids o.net) (only_devices o.net)
+
+  rows_emulated : (ds : List DeviceId) → All (λ (e : DeviceId × DeviceId). holds_device o.emulated e.1 ≡ true) (flat_map (λ a. map (λ b. (a, b)) (receivers o a)) ds)
+  rows_emulated [] = All-nil (λ (e : DeviceId × DeviceId). holds_device o.emulated e.1 ≡ true)
+  rows_emulated (a ∷ ds) =
+      All-append (λ (e : DeviceId × DeviceId). holds_device o.emulated e.1 ≡ true) (map (λ b. (a, b)) (receivers o a)) (flat_map (λ a. map (λ b. (a, b)) (receivers o a)) ds)
+      (All-map (λ (e : DeviceId × DeviceId). holds_device o.emulated e.1 ≡ true) (λ b. (a, b)) (receivers o a) (λ k d lt. filter_passes (holds_device o.emulated) (peers_of o.net a) k d lt))
+      (rows_emulated ds)
+
+  -- each leads to an emulated device
+  pub links_emulated : All (λ (e : DeviceId × DeviceId). holds_device o.emulated e.1 ≡ true) (links_into o)
+  unfolding links_into
+  links_emulated = rows_emulated (device_ids o.net)
 
 -- ---- which directions there are
 

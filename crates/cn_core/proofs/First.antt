@@ -8,7 +8,7 @@ use Rattle.cn_base.specs.declared.ids.DeviceId.{DeviceId}
 use Rattle.cn_rib.specs.PrefixSet as prefixes
 use Rattle.cn_rib.proofs.Keyed.{least_there}
 use Rattle.cn_net.specs.Network.{device_ids, same_device}
-use Rattle.cn_net.specs.Opening.{Opening}
+use Rattle.cn_record.specs.Recorded.{RecordedOpening}
 use Rattle.cn_core.specs.declared.event.Event.{Event}
 use Rattle.cn_core.specs.declared.event.Event.TheVariants.{Decide, Send}
 use Rattle.cn_core.specs.declared.session.Session.{Session}
@@ -48,9 +48,9 @@ enabled s e apart (Some x) d f is =
 enabled s e apart None (Some d) f is = enabled_at s d (prefixes.least (rib s d).dirty) e apart f refl is
 enabled s e apart None None f is = cc
 
-pub first_enabled : (o : Opening) (s : CoreState) (e : Event) → IsKept o s → first_event s ≡ Some e → IsTrue (can s e)
+pub first_enabled : (r : RecordedOpening) (s : CoreState) (e : Event) → IsKept r s → first_event s ≡ Some e → IsTrue (can s e)
 unfolding first_event
-first_enabled o s e k is = enabled s e (apart o s k.ends) (find has_mail s.sessions) (first_pending s) refl is
+first_enabled r s e k is = enabled s e (apart r.opening s k.ends) (find has_mail s.sessions) (first_pending s) refl is
 
 -- a pending device has an event
 has_event : (s : CoreState) (d : DeviceId) (o : Option Cidr) → (is_some o || is_some (find (owes_from s d) s.sessions)) ≡ true → device_event s d o ≡ None → ⊥
@@ -65,15 +65,15 @@ no_first s (Some x) d p e = cc
 no_first s None (Some d) p e = absurd (has_event s d (prefixes.least (rib s d).dirty) (found_passes (is_pending s) (device_ids s.net) d p) e)
 no_first s None None p e = (refl, refl)
 
-pub first_none : (o : Opening) (s : CoreState) → IsKept o s → (first_event s ≡ None) ↔ IsQuiet s
+pub first_none : (r : RecordedOpening) (s : CoreState) → IsKept r s → (first_event s ≡ None) ↔ IsQuiet s
 unfolding first_event
-first_none o s k = (
-  λ e. let parts = no_first s (find has_mail s.sessions) (first_pending s) refl e in stands_quiet o s k parts.0 parts.1,
+first_none r s k = (
+  λ e. let parts = no_first s (find has_mail s.sessions) (first_pending s) refl e in stands_quiet r s k parts.0 parts.1,
   λ q. let parts = quiet_stands s q in λ i. first_of s (parts.0 i) (parts.1 i),
 )
 
 pub first_holds : FirstLaw
 first_holds = record {
-  enabled = λ o h e run is. first_enabled o (state o h) e (run_holds o h run) is;
-  none = λ o h run. first_none o (state o h) (run_holds o h run);
+  enabled = λ r h e run is. first_enabled r (state r h) e (run_holds r h run) is;
+  none = λ r h run. first_none r (state r h) (run_holds r h run);
 }

@@ -20,6 +20,7 @@ use Rattle.cn_net.specs.Islands.{holds_device}
 use Rattle.cn_net.specs.Network.{IsDevice, same_device}
 use Rattle.cn_net.specs.Opening.{Opening}
 use Rattle.cn_net.proofs.Keys.{same_device-Decides}
+use Rattle.cn_record.specs.Recorded.{RecordedOpening}
 use Rattle.cn_core.specs.declared.event.Event.TheVariants.{Receive, Decide, Send}
 use Rattle.cn_core.specs.declared.event.Step.{Step}
 use Rattle.cn_core.specs.declared.event.Step.TheVariants.{Work, Mark}
@@ -27,11 +28,12 @@ use Rattle.cn_core.specs.declared.message.Message.{Message}
 use Rattle.cn_core.specs.declared.message.Message.TheVariants.{Withdraw, Announce}
 use Rattle.cn_core.specs.declared.session.Rib.{Rib}
 use Rattle.cn_core.specs.declared.session.Session.{Session}
-use Rattle.cn_core.specs.Laws.{CleanIsDecided, IsKept, RunLaw, ends_of, held_in, links_into}
-use Rattle.cn_core.specs.Machine.{IsEnabled, IsRun, IsRunFrom, came_at, can, decide, put_choice, put_out, receive, send, soiled, start, state, step, taken_in, with_rib, with_session}
+use Rattle.cn_core.specs.Laws.{CleanIsDecided, IsKept, IsSpeaking, RunLaw, SpeakersSay, ends_of, held_in, links_into}
+use Rattle.cn_core.specs.Machine.{IsEnabled, IsRun, IsRunFrom, came_at, can, decide, put_choice, put_out, receive, send, soiled, state, step, taken_in, with_rib, with_session}
+use Rattle.cn_core.specs.Start.{start}
 use Rattle.cn_core.specs.State.{CoreState, apply, apply_all, empty_session, is_session, owed_by, prefix_of, rib, session}
 use Rattle.cn_core.proofs.Access.{KeepsEnds, all_at_first, came_kept, came_of_rib, ends_are, ends_kept, found_has, found_is, rib_of_session, rib_other, rib_past, rib_same}
-use Rattle.cn_core.proofs.Ends.{all_by_ends, links_within}
+use Rattle.cn_core.proofs.Ends.{all_by_ends, links_emulated, links_within}
 use Rattle.cn_core.proofs.Opened.{kept_start}
 
 -- ---- messages
@@ -62,7 +64,7 @@ taken_ends m rest = record { from = λ x. refl; to = λ x. refl }
 put_out_ends : (m : Message) → KeepsEnds (put_out m)
 put_out_ends m = record { from = λ x. refl; to = λ x. refl }
 
--- ---- all that is kept but what is decided
+-- ---- all that is kept but what is decided and what speakers say
 
 record IsSound (o : Opening) (s : CoreState) : Type 0 where
   net : s.net ≡ o.net
@@ -71,13 +73,13 @@ record IsSound (o : Opening) (s : CoreState) : Type 0 where
   transit : All IsInTransit s.sessions
   few : All (λ x. length x.mail ≤ 64) s.sessions
 
-sound_of : (o : Opening) (s : CoreState) → IsKept o s → IsSound o s
+sound_of : (r : RecordedOpening) (s : CoreState) → IsKept r s → IsSound r.opening s
 unfolding IsInTransit
-sound_of o s k = record { net = k.net; ends = k.ends; ribs = k.ribs; transit = k.transit; few = k.few }
+sound_of r s k = record { net = k.net; ends = k.ends; ribs = k.ribs; transit = k.transit; few = k.few }
 
-kept_of : (o : Opening) (s : CoreState) → IsSound o s → CleanIsDecided o s → IsKept o s
+kept_of : (r : RecordedOpening) (s : CoreState) → IsSound r.opening s → CleanIsDecided r.opening s → SpeakersSay r s → IsKept r s
 unfolding IsInTransit
-kept_of o s k d = record { net = k.net; ends = k.ends; ribs = k.ribs; transit = k.transit; few = k.few; decided = d }
+kept_of r s k d say = record { net = k.net; ends = k.ends; ribs = k.ribs; transit = k.transit; few = k.few; decided = d; speakers = say }
 
 -- each session keeps P where f does
 all_sessions : (P : Session → Type 0) (s : CoreState) (a b : DeviceId) (f : Session → Session) → ((x : Session) → session s a b ≡ x → P x → P (f x)) → All P s.sessions → All P (with_session s a b f).sessions
@@ -119,11 +121,23 @@ has_session a b s m rest e =
       | Some x ↦ λ e. (x, refl)
     ] e
 
-receiver_in_range : (o : Opening) (s : CoreState) → IsKept o s → (a b : DeviceId) (m : Message) (rest : List Message) → (session s a b).mail ≡ m ∷ rest → b.0 < length s.ribs
-receiver_in_range o s k a b m rest e =
+receiver_in_range : (r : RecordedOpening) (s : CoreState) → IsKept r s → (a b : DeviceId) (m : Message) (rest : List Message) → (session s a b).mail ≡ m ∷ rest → b.0 < length s.ribs
+receiver_in_range r s k a b m rest e =
+    let net = r.opening.net in
     let got = has_session a b s m rest e in
-    let facts = found_has (λ x. IsDevice o.net x.from × IsDevice o.net x.to) (is_session a b) s.sessions got.0 (within o s k.ends) got.1 in
-    subst (λ l. b.0 < l) (sym k.ribs) (subst (λ (z : DeviceId). z.0 < length o.net.devices) (ends_are a b got.0 facts.1).1 facts.0.1)
+    let facts = found_has (λ x. IsDevice net x.from × IsDevice net x.to) (is_session a b) s.sessions got.0 (within r.opening s k.ends) got.1 in
+    subst (λ l. b.0 < l) (sym k.ribs) (subst (λ (z : DeviceId). z.0 < length net.devices) (ends_are a b got.0 facts.1).1 facts.0.1)
+
+into_emulated : (o : Opening) (s : CoreState) → ends_of s.sessions ≡ links_into o → All (λ x. holds_device o.emulated x.to ≡ true) s.sessions
+into_emulated o s e =
+    all_by_ends (λ (z : DeviceId × DeviceId). holds_device o.emulated z.1 ≡ true) s.sessions (subst (All (λ (z : DeviceId × DeviceId). holds_device o.emulated z.1 ≡ true)) (sym e) (links_emulated o))
+
+-- no mail stands before a device that isn't emulated
+receiver_emulated : (r : RecordedOpening) (s : CoreState) → IsKept r s → (a b : DeviceId) (m : Message) (rest : List Message) → (session s a b).mail ≡ m ∷ rest → holds_device r.opening.emulated b ≡ true
+receiver_emulated r s k a b m rest e =
+    let got = has_session a b s m rest e in
+    let facts = found_has (λ x. holds_device r.opening.emulated x.to ≡ true) (is_session a b) s.sessions got.0 (into_emulated r.opening s k.ends) got.1 in
+    subst (λ (z : DeviceId). holds_device r.opening.emulated z ≡ true) (ends_are a b got.0 facts.1).1 facts.0
 
 -- ---- what is clean is decided
 
@@ -169,17 +183,33 @@ module _ (o : Opening) (s : CoreState) (k : CleanIsDecided o s) (a b : DeviceId)
             (came_of_rib t d q b x ∙ came_kept s f ends a b d q (λ y is at. absurd (other (sym at ∙ (ends_are a b y (found_is (is_session a b) s.sessions y is)).1)))) refl (λ z. z) k m c
       ]
 
+-- ---- speakers keep what they say
+
+-- where what an emulated device has changes, and nothing else
+say_elsewhere : (r : RecordedOpening) (s t : CoreState) (b : DeviceId) → SpeakersSay r s → holds_device r.opening.emulated b ≡ true → ((d : DeviceId) → d ≢ b → rib t d ≡ rib s d) → SpeakersSay r t
+say_elsewhere r s t b say m same d e = subst (IsSpeaking r d) (sym (same d (λ h. true≢false (sym m ∙ ap (holds_device r.opening.emulated) (sym h) ∙ e)))) (say d e)
+
+-- a device with a dirty prefix is emulated
+dirty_emulated : (r : RecordedOpening) (s : CoreState) → SpeakersSay r s → (d : DeviceId) (p : Cidr) → prefixes.contains (rib s d).dirty p ≡ true → holds_device r.opening.emulated d ≡ true
+dirty_emulated r s say d p dirty =
+    elim (holds_device r.opening.emulated d) as (λ t. holds_device r.opening.emulated d ≡ t → t ≡ true) [
+      | true ↦ λ t. refl
+      | false ↦ λ t. absurd (true≢false (sym dirty ∙ ap (λ x. prefixes.contains x p) (say d t).clean ∙ contains-empty p))
+    ] refl
+
 -- ---- a receive
 
-kept_received : (o : Opening) (s : CoreState) (k : IsKept o s) (a b : DeviceId) (m : Message) (rest : List Message) → (session s a b).mail ≡ m ∷ rest → IsKept o (with_rib (with_session s a b (taken_in m rest)) b (soiled (rib s b) (prefix_of m)))
-kept_received o s k a b m rest e =
+kept_received : (r : RecordedOpening) (s : CoreState) (k : IsKept r s) (a b : DeviceId) (m : Message) (rest : List Message) → (session s a b).mail ≡ m ∷ rest → IsKept r (with_rib (with_session s a b (taken_in m rest)) b (soiled (rib s b) (prefix_of m)))
+kept_received r s k a b m rest e =
+    let o = r.opening in
     let f = taken_in m rest in
     let x = soiled (rib s b) (prefix_of m) in
     let mail : (y : Session) → session s a b ≡ y → y.mail ≡ m ∷ rest = λ y is. ap (λ (z : Session). z.mail) (sym is) ∙ e in
-    kept_of o (with_rib (with_session s a b f) b x)
-    (sound_rib o (with_session s a b f) (sound_session o s (sound_of o s k) a b f (taken_ends m rest) (λ y is t. taken_transit m rest y (mail y is) t) (λ y is t. let was : y.mail ≡ m ∷ rest = mail y is in omega (arith, ap length was, t))) b x)
-    (decided_touched o s k.decided a b f (taken_ends m rest) x (receiver_in_range o s k a b m rest e) refl
+    kept_of r (with_rib (with_session s a b f) b x)
+    (sound_rib o (with_session s a b f) (sound_session o s (sound_of r s k) a b f (taken_ends m rest) (λ y is t. taken_transit m rest y (mail y is) t) (λ y is t. let was : y.mail ≡ m ∷ rest = mail y is in omega (arith, ap length was, t))) b x)
+    (decided_touched o s k.decided a b f (taken_ends m rest) x (receiver_in_range r s k a b m rest e) refl
     (λ q c. let was = not_inserted (rib s b).dirty (prefix_of m) q c in (was.1, λ y. apply_other y.came m q was.0)))
+    (say_elsewhere r s (with_rib (with_session s a b f) b x) b k.speakers (receiver_emulated r s k a b m rest e) (λ d other. rib_other (with_session s a b f) b d x other ∙ rib_of_session s a b d f))
 
 -- ---- a decision
 
@@ -221,42 +251,48 @@ module _ (o : Opening) (s : CoreState) (k : CleanIsDecided o s) (d : DeviceId) (
         | inr other ↦ decided_at o s (with_rib s d result_of) i q (rib s i) net (rib_other s d i result_of other) (came_of_rib s i q d result_of) refl (λ z. z) k m c
       ]
 
-kept_decided : (o : Opening) (s : CoreState) (k : IsKept o s) (d : DeviceId) (p : Cidr) → prefixes.contains (rib s d).dirty p ≡ true → IsKept o (decide s d p)
+kept_decided : (r : RecordedOpening) (s : CoreState) (k : IsKept r s) (d : DeviceId) (p : Cidr) → prefixes.contains (rib s d).dirty p ≡ true → IsKept r (decide s d p)
 unfolding result_of best_at
-kept_decided o s k d p e = kept_of o (decide s d p) (sound_rib o s (sound_of o s k) d (result_of o s k.decided d p e)) (decided_decided o s k.decided d p e)
+kept_decided r s k d p e =
+    let o = r.opening in
+    let x = result_of o s k.decided d p e in
+    kept_of r (decide s d p) (sound_rib o s (sound_of r s k) d x) (decided_decided o s k.decided d p e)
+    (say_elsewhere r s (decide s d p) d k.speakers (dirty_emulated r s k.speakers d p e) (λ i other. rib_other s d i x other))
 
 -- ---- a send
 
-kept_sent : (o : Opening) (s : CoreState) → IsKept o s → (a b : DeviceId) (m : Message) → length (session s a b).mail < 64 → IsKept o (with_session s a b (put_out m))
-kept_sent o s k a b m room =
+kept_sent : (r : RecordedOpening) (s : CoreState) → IsKept r s → (a b : DeviceId) (m : Message) → length (session s a b).mail < 64 → IsKept r (with_session s a b (put_out m))
+kept_sent r s k a b m room =
+    let o = r.opening in
     let f = put_out m in
-    kept_of o (with_session s a b f)
-    (sound_session o s (sound_of o s k) a b f (put_out_ends m) (λ y is t. put_out_transit m y t) (λ y is t. let was : length y.mail < 64 = subst (λ z. length z.mail < 64) is room in simp length-append (omega (arith, was))))
+    kept_of r (with_session s a b f)
+    (sound_session o s (sound_of r s k) a b f (put_out_ends m) (λ y is t. put_out_transit m y t) (λ y is t. let was : length y.mail < 64 = subst (λ z. length z.mail < 64) is room in simp length-append (omega (arith, was))))
     (λ d q e c. decided_at o s (with_session s a b f) d q (rib s d) (net_of_session s a b f) (rib_of_session s a b d f) (came_kept s f (put_out_ends m) a b d q (λ x is at. refl)) refl (λ z. z) k.decided e c)
+    (λ d e. subst (IsSpeaking r d) (sym (rib_of_session s a b d f)) (k.speakers d e))
 
 -- ---- every step
 
-kept_receive : (o : Opening) (s : CoreState) → IsKept o s → (a b : DeviceId) (ms : List Message) → (session s a b).mail ≡ ms → IsKept o (receive s a b ms)
-kept_receive o s k a b [] e = k
-kept_receive o s k a b (m ∷ rest) e = kept_received o s k a b m rest e
+kept_receive : (r : RecordedOpening) (s : CoreState) → IsKept r s → (a b : DeviceId) (ms : List Message) → (session s a b).mail ≡ ms → IsKept r (receive s a b ms)
+kept_receive r s k a b [] e = k
+kept_receive r s k a b (m ∷ rest) e = kept_received r s k a b m rest e
 
-kept_send : (o : Opening) (s : CoreState) → IsKept o s → (a b : DeviceId) (m : Option Message) → length (session s a b).mail < 64 → IsKept o (send s a b m)
-kept_send o s k a b None room = k
-kept_send o s k a b (Some m) room = kept_sent o s k a b m room
+kept_send : (r : RecordedOpening) (s : CoreState) → IsKept r s → (a b : DeviceId) (m : Option Message) → length (session s a b).mail < 64 → IsKept r (send s a b m)
+kept_send r s k a b None room = k
+kept_send r s k a b (Some m) room = kept_sent r s k a b m room
 
 pub room_to_send : (s : CoreState) (a b : DeviceId) → IsTrue (can s (Send a b)) → length (session s a b).mail < 64
 room_to_send s a b h = grind (arith, nat_tests)
 
-pub kept_step : (o : Opening) (s : CoreState) → IsKept o s → (e : Step) → IsEnabled s e → IsKept o (step s e)
-kept_step o s k (Work (Receive a b)) h = kept_receive o s k a b (session s a b).mail refl
-kept_step o s k (Work (Decide d p)) h = kept_decided o s k d p h
-kept_step o s k (Work (Send a b)) h = kept_send o s k a b (owed_by s (session s a b)) (room_to_send s a b h)
-kept_step o s k (Mark i) h = k
+pub kept_step : (r : RecordedOpening) (s : CoreState) → IsKept r s → (e : Step) → IsEnabled s e → IsKept r (step s e)
+kept_step r s k (Work (Receive a b)) h = kept_receive r s k a b (session s a b).mail refl
+kept_step r s k (Work (Decide d p)) h = kept_decided r s k d p h
+kept_step r s k (Work (Send a b)) h = kept_send r s k a b (owed_by s (session s a b)) (room_to_send s a b h)
+kept_step r s k (Mark i) h = k
 
-pub kept_run : (o : Opening) (s : CoreState) → IsKept o s → (h : List Step) → IsRunFrom s h → IsKept o (fold step s h)
-kept_run o s k [] run = k
-kept_run o s k (e ∷ es) run = kept_run o (step s e) (kept_step o s k e run.0) es run.1
+pub kept_run : (r : RecordedOpening) (s : CoreState) → IsKept r s → (h : List Step) → IsRunFrom s h → IsKept r (fold step s h)
+kept_run r s k [] run = k
+kept_run r s k (e ∷ es) run = kept_run r (step s e) (kept_step r s k e run.0) es run.1
 
 pub run_holds : RunLaw
 unfolding state IsRun
-run_holds o h run = kept_run o (start o) (kept_start o) h run
+run_holds r h run = kept_run r (start r) (kept_start r) h run

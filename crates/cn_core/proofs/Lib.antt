@@ -20,3 +20,5 @@ pub mod Tabled
 pub mod Wholes
 pub mod Logged
 pub mod Pulls
+mod Rowing
+mod Speaking

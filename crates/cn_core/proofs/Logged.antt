@@ -2,13 +2,14 @@
 use Rattle.std.proofs.Common.{◌≡◌, ℕ, false, List, [], ◌∷◌, ◌++◌, refl, sym, ap, ◌∙◌, subst}
 use Rattle.std.specs.Prelude.{Err, IsTrue, Ok, OnOk, Result, is_err}
 use Rattle.std.specs.List.{fold}
-use Rattle.cn_net.specs.Opening.{IsOpening, Opening}
+use Rattle.cn_record.specs.Recorded.{IsRecorded, RecordedOpening}
 use Rattle.cn_core.specs.declared.event.Event.{Event}
 use Rattle.cn_core.specs.declared.event.Step.{Step}
 use Rattle.cn_core.specs.declared.event.Step.TheVariants.{Work, Mark}
-use Rattle.cn_core.specs.Laws.{AllEmulated, IsKept}
+use Rattle.cn_core.specs.Laws.{IsKept}
 use Rattle.cn_core.specs.Log.{IsState}
-use Rattle.cn_core.specs.Machine.{IsEnabled, IsRun, IsRunFrom, after_event, can, start, state, step}
+use Rattle.cn_core.specs.Machine.{IsEnabled, IsRun, IsRunFrom, after_event, can, state, step}
+use Rattle.cn_core.specs.Start.{start}
 use Rattle.cn_core.specs.State.{CoreState}
 use Rattle.cn_core.specs.Whole.{IsWhole}
 use Rattle.cn_core.proofs.Kept.{run_holds}
@@ -18,51 +19,49 @@ fold_push : (s : CoreState) (h : List Step) (e : Step) → fold step s (h ++ e �
 fold_push s [] e = refl
 fold_push s (x ∷ h) e = fold_push (step s x) h e
 
-pub state_push : (o : Opening) (h : List Step) (e : Step) → state o (h ++ e ∷ []) ≡ step (state o h) e
+pub state_push : (r : RecordedOpening) (h : List Step) (e : Step) → state r (h ++ e ∷ []) ≡ step (state r h) e
 unfolding state
-state_push o h e = fold_push (start o) h e
+state_push r h e = fold_push (start r) h e
 
 run_from_push : (s : CoreState) (h : List Step) (e : Step) → IsRunFrom s h → IsEnabled (fold step s h) e → IsRunFrom s (h ++ e ∷ [])
 run_from_push s [] e run enabled = (enabled, tt)
 run_from_push s (x ∷ h) e run enabled = (run.0, run_from_push (step s x) h e run.1 enabled)
 
-pub run_push : (o : Opening) (h : List Step) (e : Step) → IsRun o h → IsEnabled (state o h) e → IsRun o (h ++ e ∷ [])
+pub run_push : (r : RecordedOpening) (h : List Step) (e : Step) → IsRun r h → IsEnabled (state r h) e → IsRun r (h ++ e ∷ [])
 unfolding state IsRun
-run_push o h e run enabled = run_from_push (start o) h e run enabled
+run_push r h e run enabled = run_from_push (start r) h e run enabled
 
-empty_run : (o : Opening) → IsRun o []
+empty_run : (r : RecordedOpening) → IsRun r []
 unfolding IsRun
-empty_run o = tt
+empty_run r = tt
 
-pub state_nil : (o : Opening) → state o [] ≡ start o
+pub state_nil : (r : RecordedOpening) → state r [] ≡ start r
 unfolding state
-state_nil o = refl
+state_nil r = refl
 
-pub kept_of : (o : Opening) (h : List Step) (t : CoreState) → IsState o h t → IsKept o t
-kept_of o h t is = subst (IsKept o) (sym is.tables) (run_holds o h is.run)
+pub kept_of : (r : RecordedOpening) (h : List Step) (t : CoreState) → IsState r h t → IsKept r t
+kept_of r h t is = subst (IsKept r) (sym is.tables) (run_holds r h is.run)
 
-pub whole_at : (o : Opening) (h : List Step) (t : CoreState) → IsState o h t → IsWhole t
-whole_at o h t is = whole_of o t is.opening.valid (kept_of o h t is)
+pub whole_at : (r : RecordedOpening) (h : List Step) (t : CoreState) → IsState r h t → IsWhole t
+whole_at r h t is = whole_of r t is.recorded.opening.valid (kept_of r h t is)
 
-pub worked : (o : Opening) (h hs : List Step) (t u : CoreState) (e : Event) → IsState o h t → IsTrue (can t e) → u ≡ after_event t e → hs ≡ h ++ Work e ∷ [] → IsState o hs u
-worked o h hs t u e is enabled new grown = subst (λ l. IsState o l u) (sym grown) (record {
-  opening = is.opening;
-  emulated = is.emulated;
-  run = run_push o h (Work e) is.run (subst (λ s. IsTrue (can s e)) is.tables enabled);
-  tables = new ∙ ap (λ s. after_event s e) is.tables ∙ sym (state_push o h (Work e));
+pub worked : (r : RecordedOpening) (h hs : List Step) (t u : CoreState) (e : Event) → IsState r h t → IsTrue (can t e) → u ≡ after_event t e → hs ≡ h ++ Work e ∷ [] → IsState r hs u
+worked r h hs t u e is enabled new grown = subst (λ l. IsState r l u) (sym grown) (record {
+  recorded = is.recorded;
+  run = run_push r h (Work e) is.run (subst (λ s. IsTrue (can s e)) is.tables enabled);
+  tables = new ∙ ap (λ s. after_event s e) is.tables ∙ sym (state_push r h (Work e));
 })
 
-pub marked : (o : Opening) (h hs : List Step) (t : CoreState) (k : ℕ) → IsState o h t → hs ≡ h ++ Mark k ∷ [] → IsState o hs t
-marked o h hs t k is grown = subst (λ l. IsState o l t) (sym grown) (record {
-  opening = is.opening;
-  emulated = is.emulated;
-  run = run_push o h (Mark k) is.run tt;
-  tables = is.tables ∙ sym (state_push o h (Mark k));
+pub marked : (r : RecordedOpening) (h hs : List Step) (t : CoreState) (k : ℕ) → IsState r h t → hs ≡ h ++ Mark k ∷ [] → IsState r hs t
+marked r h hs t k is grown = subst (λ l. IsState r l t) (sym grown) (record {
+  recorded = is.recorded;
+  run = run_push r h (Mark k) is.run tt;
+  tables = is.tables ∙ sym (state_push r h (Mark k));
 })
 
 pub from_no_err : {T E P : Type 0} (r : Result T E) → is_err r ≡ false → OnOk r P → P
 from_no_err (Ok x) e h = h
 from_no_err (Err y) e h = cc
 
-pub opened : (o : Opening) (h : List Step) (t : CoreState) → IsOpening o → AllEmulated o → h ≡ [] → t ≡ start o → IsState o h t
-opened o h t opening emulated none first = subst (λ h. IsState o h t) (sym none) (record { opening = opening; emulated = emulated; run = empty_run o; tables = first ∙ sym (state_nil o) })
+pub opened : (r : RecordedOpening) (h : List Step) (t : CoreState) → IsRecorded r → h ≡ [] → t ≡ start r → IsState r h t
+opened r h t recorded none first = subst (λ h. IsState r h t) (sym none) (record { recorded = recorded; run = empty_run r; tables = first ∙ sym (state_nil r) })

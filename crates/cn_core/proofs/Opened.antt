@@ -1,9 +1,10 @@
 -- The state at the start.
-use Rattle.std.proofs.Common.{◌≡◌, ◌<◌, ◌≤◌, Bool, true, false, cond, List, [], ◌∷◌, length, get_or, map, Option, Some, None, refl, sym, ap, ◌∙◌, inl, inr, arith}
-use Rattle.std.specs.Prelude.{◌||◌, All, option_and_then, option_map, unwrap_or}
+use Rattle.std.proofs.Common.{◌≡◌, ℕ, ◌<◌, ◌≤◌, Bool, true, false, cond, List, [], ◌∷◌, length, get_or, map, Option, Some, None, refl, sym, ap, ◌∙◌, subst, inl, inr, arith}
+use Rattle.std.specs.Prelude.{◌||◌, ◌&&◌, All, is_some, nat_lt, option_and_then, option_map, unwrap_or}
 use Rattle.std.specs.List.{find, flat_map, fold, list_any}
 use Rattle.std.specs.FinMap as fin
 use Rattle.std.proofs.lemmas.Bool.{cases_lt}
+use Rattle.std.proofs.lemmas.Bool.Decides.{nat_tests}
 use Rattle.std.proofs.lemmas.List.{get_or-map, get_or_past, length-map}
 use Rattle.std.proofs.lemmas.List.Elements.{All-append, All-map, All-nil}
 use Rattle.std.proofs.lemmas.List.FromFn.{get_or-map-range_with_len, length-range_with_len}
@@ -16,18 +17,22 @@ use Rattle.cn_rib.specs.PrefixSet as prefixes
 use Rattle.cn_rib.proofs.Keyed.{contains-empty, contains-insert_all, get_empty}
 use Rattle.cn_rib.proofs.Prefixes.{same_flip}
 use Rattle.cn_net.specs.Candidates.{best_of, better_of, own_choice, usable}
-use Rattle.cn_net.specs.Islands.{holds_device}
+use Rattle.cn_net.specs.Islands.{holds_device, label_of}
 use Rattle.cn_net.specs.Network.{Network, device_ids, device_of, own_of, own_origin}
 use Rattle.cn_net.specs.Opening.{Opening}
+use Rattle.cn_record.specs.Recorded.{RecordedOpening}
+use Rattle.cn_record.specs.Said.{is_one_island, island_originates}
 use Rattle.cn_net.specs.declared.device.Device.{Device}
 use Rattle.cn_net.specs.declared.device.Own.{Own}
 use Rattle.cn_core.specs.declared.session.Rib.{Rib}
 use Rattle.cn_core.specs.declared.session.Session.{Session}
-use Rattle.cn_core.specs.Laws.{CleanIsDecided, IsKept, held_in}
-use Rattle.cn_core.specs.Machine.{came_at, first_rib, first_ribs, first_sessions, own_prefixes, receivers, route_with, start}
+use Rattle.cn_core.specs.Laws.{CleanIsDecided, IsKept, IsSpeaking, SpeakersSay, held_in}
+use Rattle.cn_core.specs.Machine.{came_at, route_with}
+use Rattle.cn_core.specs.Start.{emulated_rib, first_rib, first_ribs, first_sessions, own_prefixes, receivers, speaker_rib, start}
 use Rattle.cn_core.specs.State.{apply_all, empty_rib, empty_session, is_session, rib, session}
 use Rattle.cn_core.proofs.Access.{found_has}
 use Rattle.cn_core.proofs.Ends.{first_ends}
+use Rattle.cn_core.proofs.Speaking.{beyond_says_nothing, speaker_says}
 
 -- ---- the sessions are empty
 
@@ -40,10 +45,13 @@ all_empty : (P : Session → Type 0) → ((a b : DeviceId) → P (empty_session 
 unfolding first_sessions
 all_empty P p o = rows_empty P p o (device_ids o.net)
 
-nothing_came : (o : Opening) (d : DeviceId) (q : Cidr) → came_at (start o) d q ≡ (λ a. None)
+nothing_came : (r : RecordedOpening) (d : DeviceId) (q : Cidr) → came_at (start r) d q ≡ (λ a. None)
 unfolding came_at session start
-nothing_came o d q = λ i a. at_each a i
+nothing_came r d q = λ i a. at_each a i
   where
+    o : Opening
+    o = r.opening
+
     at_each : (a : DeviceId) → option_map (route_with q) (fin.get (unwrap_or (find (is_session a d) (first_sessions o)) (empty_session a d)).came q) ≡ None
     at_each a = elim (find (is_session a d) (first_sessions o)) as (λ x. find (is_session a d) (first_sessions o) ≡ x → option_map (route_with q) (fin.get (unwrap_or x (empty_session a d)).came q) ≡ None) [
       | None ↦ λ e. ap (option_map (route_with q)) (get_empty q)
@@ -82,19 +90,26 @@ pub count_ids : (net : Network) → length (device_ids net) ≡ length net.devic
 unfolding device_ids
 count_ids net = rw (length-map, length-range_with_len) refl
 
-pub count_ribs : (o : Opening) → length (first_ribs o) ≡ length o.net.devices
+pub count_ribs : (r : RecordedOpening) → length (first_ribs r) ≡ length r.opening.net.devices
 unfolding first_ribs
-count_ribs o = length-map (device_ids o.net) (first_rib o) ∙ count_ids o.net
+count_ribs r = length-map (device_ids r.opening.net) (first_rib r) ∙ count_ids r.opening.net
 
-rib_at : (o : Opening) (d : DeviceId) → d.0 < length o.net.devices → rib (start o) d ≡ first_rib o d
+rib_at : (r : RecordedOpening) (d : DeviceId) → d.0 < length r.opening.net.devices → rib (start r) d ≡ first_rib r d
 unfolding rib start first_ribs
-rib_at o d h =
-    let within : d.0 < length (device_ids o.net) = rw (count_ids o.net) h in
-    get_or-map (first_rib o) (device_ids o.net) d.0 d empty_rib within ∙ ap (first_rib o) (number_at o.net d d h)
+rib_at r d h =
+    let within : d.0 < length (device_ids r.opening.net) = rw (count_ids r.opening.net) h in
+    get_or-map (first_rib r) (device_ids r.opening.net) d.0 d empty_rib within ∙ ap (first_rib r) (number_at r.opening.net d d h)
 
-rib_beyond : (o : Opening) (d : DeviceId) → length o.net.devices ≤ d.0 → rib (start o) d ≡ empty_rib
+rib_beyond : (r : RecordedOpening) (d : DeviceId) → length r.opening.net.devices ≤ d.0 → rib (start r) d ≡ empty_rib
 unfolding rib start
-rib_beyond o d h = get_or_past (first_ribs o) d.0 empty_rib (rw (count_ribs o) h)
+rib_beyond r d h = get_or_past (first_ribs r) d.0 empty_rib (rw (count_ribs r) h)
+
+-- what a device has that is emulated, and one that isn't
+emulated_at : (r : RecordedOpening) (d : DeviceId) → d.0 < length r.opening.net.devices → holds_device r.opening.emulated d ≡ true → rib (start r) d ≡ emulated_rib r.opening d
+emulated_at r d in' e = rib_at r d in' ∙ ap (λ b. cond b (emulated_rib r.opening d) (speaker_rib r d)) e
+
+speaker_at : (r : RecordedOpening) (d : DeviceId) → d.0 < length r.opening.net.devices → holds_device r.opening.emulated d ≡ false → rib (start r) d ≡ speaker_rib r d
+speaker_at r d in' e = rib_at r d in' ∙ ap (λ b. cond b (emulated_rib r.opening d) (speaker_rib r d)) e
 
 own_clean : (os : List Own) (q : Cidr) → list_any (same_prefix q) (map (λ o. o.prefix) os) ≡ false → find (λ o. same_prefix o.prefix q) os ≡ None
 own_clean [] q e = refl
@@ -116,38 +131,54 @@ own_dirty : (net : Network) (d : DeviceId) (q : Cidr) → prefixes.contains (pre
 own_dirty net d q =
     contains-insert_all prefixes.empty (own_prefixes net d) q ∙ ap (λ b. list_any (same_prefix q) (own_prefixes net d) || b) (contains-empty q) ∙ or_false (list_any (same_prefix q) (own_prefixes net d))
 
-clean_has_no_own : (o : Opening) (d : DeviceId) (q : Cidr) → holds_device o.emulated d ≡ true → prefixes.contains (rib (start o) d).dirty q ≡ false → own_origin o.net d q ≡ None
-clean_has_no_own o d q e c =
-    elim (cases_lt d.0 (length o.net.devices)) [
-      | inl in' ↦
-          let first : rib (start o) d ≡ record { best = fin.empty; dirty = prefixes.insert_all prefixes.empty (own_prefixes o.net d) } =
-          rib_at o d in' ∙ ap (λ b. cond b (record { best = fin.empty; dirty = prefixes.insert_all prefixes.empty (own_prefixes o.net d) }) empty_rib) e in
-          device_clean (device_of o.net d) q (sym (own_dirty o.net d q) ∙ ap (λ (x : Rib). prefixes.contains x.dirty q) (sym first) ∙ c)
-      | inr out ↦ ap (option_and_then (λ (x : Device). own_of x.body q)) (slice_get_past o.net.devices d.0 out)
+clean_has_no_own : (r : RecordedOpening) (d : DeviceId) (q : Cidr) → holds_device r.opening.emulated d ≡ true → prefixes.contains (rib (start r) d).dirty q ≡ false → own_origin r.opening.net d q ≡ None
+clean_has_no_own r d q e c =
+    elim (cases_lt d.0 (length r.opening.net.devices)) [
+      | inl in' ↦ device_clean (device_of r.opening.net d) q (sym (own_dirty r.opening.net d q) ∙ ap (λ (x : Rib). prefixes.contains x.dirty q) (sym (emulated_at r d in' e)) ∙ c)
+      | inr out ↦ ap (option_and_then (λ (x : Device). own_of x.body q)) (slice_get_past r.opening.net.devices d.0 out)
     ]
 
-nothing_held : (o : Opening) (d : DeviceId) (q : Cidr) → held_in (start o) d q ≡ None
-nothing_held o d q =
-    elim (cases_lt d.0 (length o.net.devices)) [
-      | inl in' ↦ ap (λ (x : Rib). fin.get x.best q) (rib_at o d in') ∙ elim (holds_device o.emulated d) as (λ b. fin.get (cond {A = Rib} b (record { best = fin.empty; dirty = prefixes.insert_all prefixes.empty (own_prefixes o.net d) }) empty_rib).best q ≡ None) [ true ↦ get_empty q | false ↦ get_empty q ]
-      | inr out ↦ ap (λ (x : Rib). fin.get x.best q) (rib_beyond o d out) ∙ get_empty q
+nothing_held : (r : RecordedOpening) (d : DeviceId) (q : Cidr) → holds_device r.opening.emulated d ≡ true → held_in (start r) d q ≡ None
+nothing_held r d q e =
+    elim (cases_lt d.0 (length r.opening.net.devices)) [
+      | inl in' ↦ ap (λ (x : Rib). fin.get x.best q) (emulated_at r d in' e) ∙ get_empty q
+      | inr out ↦ ap (λ (x : Rib). fin.get x.best q) (rib_beyond r d out) ∙ get_empty q
     ]
 
-net_at_start : (o : Opening) → (start o).net ≡ o.net
+net_at_start : (r : RecordedOpening) → (start r).net ≡ r.opening.net
 unfolding start
-net_at_start o = refl
+net_at_start r = refl
 
-decided_at_start : (o : Opening) → CleanIsDecided o (start o)
-decided_at_start o d q e c =
-    nothing_held o d q ∙ sym (ap (λ n. best_of n (came_at (start o) d q) d q) (net_at_start o) ∙ ap (λ f. best_of o.net f d q) (nothing_came o d q) ∙ only_own o.net d q ∙ no_own o.net d q (clean_has_no_own o d q e c))
+decided_at_start : (r : RecordedOpening) → CleanIsDecided r.opening (start r)
+decided_at_start r d q e c =
+    let net = r.opening.net in
+    nothing_held r d q e
+    ∙ sym (ap (λ n. best_of n (came_at (start r) d q) d q) (net_at_start r) ∙ ap (λ f. best_of net f d q) (nothing_came r d q) ∙ only_own net d q ∙ no_own net d q (clean_has_no_own r d q e c))
 
-pub kept_start : (o : Opening) → IsKept o (start o)
+-- ---- the speakers
+
+past : (i n : ℕ) → n ≤ i → nat_lt i n ≡ false
+past i n h = grind (arith, nat_tests)
+
+not_a_device : (r : RecordedOpening) (d : DeviceId) (p : Cidr) → length r.opening.net.devices ≤ d.0 → island_originates r.opening.net (label_of r.opening.labels) d p ≡ false
+unfolding island_originates
+not_a_device r d p out = ap (λ b. b && list_any (λ x. is_one_island (label_of r.opening.labels) d x && is_some (own_origin r.opening.net x p)) (device_ids r.opening.net)) (past d.0 (length r.opening.net.devices) out)
+
+speaks_at_start : (r : RecordedOpening) → SpeakersSay r (start r)
+speaks_at_start r d e =
+    elim (cases_lt d.0 (length r.opening.net.devices)) [
+      | inl in' ↦ subst (IsSpeaking r d) (sym (speaker_at r d in' e)) (record { says = speaker_says r d; clean = refl })
+      | inr out ↦ subst (IsSpeaking r d) (sym (rib_beyond r d out)) (record { says = λ p. get_empty p ∙ sym (beyond_says_nothing r d p (not_a_device r d p out)); clean = refl })
+    ]
+
+pub kept_start : (r : RecordedOpening) → IsKept r (start r)
 unfolding start
-kept_start o = record {
+kept_start r = record {
   net = refl;
-  ends = first_ends o;
-  ribs = count_ribs o;
-  transit = all_empty (λ x. apply_all x.came x.mail ≡ x.sent) (λ a b. refl) o;
-  few = all_empty (λ x. length x.mail ≤ 64) (λ a b. omega arith) o;
-  decided = decided_at_start o;
+  ends = first_ends r.opening;
+  ribs = count_ribs r;
+  transit = all_empty (λ x. apply_all x.came x.mail ≡ x.sent) (λ a b. refl) r.opening;
+  few = all_empty (λ x. length x.mail ≤ 64) (λ a b. omega arith) r.opening;
+  decided = decided_at_start r;
+  speakers = speaks_at_start r;
 }

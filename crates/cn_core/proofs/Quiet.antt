@@ -1,5 +1,6 @@
 -- A quiet state is a stable state of the network.
 use Rattle.std.proofs.Common.{◌≡◌, Bool, true, false, [], Option, Some, None, refl, sym, ap, ◌∙◌, subst, true≢false}
+use Rattle.std.proofs.lemmas.Bool.{not-false, not-true}
 use Rattle.std.specs.Prelude.{All, is_some, option_map, unwrap_or}
 use Rattle.std.specs.List.{find, list_any}
 use Rattle.std.specs.FinMap as fin
@@ -10,9 +11,10 @@ use Rattle.cn_base.specs.declared.route.Route.{Route}
 use Rattle.cn_rib.specs.PrefixSet as prefixes
 use Rattle.cn_rib.proofs.Keyed.{contains-empty, get_empty}
 use Rattle.cn_net.specs.Candidates.{IsBest, best_of}
-use Rattle.cn_net.specs.Islands.{holds_device}
+use Rattle.cn_net.specs.Boundary.{AgreeInside, IsBounded, IsStableInside}
+use Rattle.cn_net.specs.Islands.{holds_device, label_of, outside_of}
 use Rattle.cn_net.specs.Network.{Network, is_linked, link_between}
-use Rattle.cn_net.specs.OneState.{Agree}
+use Rattle.cn_net.specs.OneState.{HasOneStableState}
 use Rattle.cn_net.specs.Opening.{Opening}
 use Rattle.cn_net.specs.Stable.{Assignment, IsStable, offer_of, offers_to, route_of}
 use Rattle.cn_net.specs.Valid.{IsValid}
@@ -20,9 +22,13 @@ use Rattle.cn_net.proofs.Apart.{distinct_ids}
 use Rattle.cn_net.proofs.Candidates.{best_of_is_best}
 use Rattle.cn_net.proofs.Offering.{offer-gives, offer_of-gives}
 use Rattle.cn_net.proofs.Peers.{linked_devices}
+use Rattle.cn_net.proofs.Quiet.{quiet_agrees}
 use Rattle.cn_net.proofs.States.{has_one_state}
+use Rattle.cn_record.specs.Recorded.{IsRecorded, RecordedOpening}
+use Rattle.cn_record.specs.Said.{said_by}
+use Rattle.cn_record.proofs.Saying.{says_own}
 use Rattle.cn_core.specs.declared.session.Session.{Session}
-use Rattle.cn_core.specs.Laws.{AllEmulated, IsKept, QuietLaw, held_in}
+use Rattle.cn_core.specs.Laws.{IsKept, QuietLaw, held_in}
 use Rattle.cn_core.specs.Machine.{came_at, route_with, state}
 use Rattle.cn_core.specs.Order.{IsQuiet}
 use Rattle.cn_core.specs.State.{CoreState, apply_all, attributes_of, empty_session, is_session, offered, owed_by, rib, session, wanted}
@@ -57,22 +63,26 @@ offer_needs_link net a b p held r e =
     let o = offer_of-gives net a b p held r e in
     up_is_linked (link_between net a b) (offer-gives net a b (route_of p o.source) r o.offered).up
 
-no_session_no_offer : (o : Opening) (s : CoreState) → IsKept o s → IsValid o.net → (a d : DeviceId) (p : Cidr) (held : Option Choice) → holds_device o.emulated d ≡ true → find (is_session a d) s.sessions ≡ None → offer_of o.net a d p held ≡ None
-no_session_no_offer o s k valid a d p held m none = by_offer (offer_of o.net a d p held) refl
+no_session_no_offer : (r : RecordedOpening) (s : CoreState) → IsKept r s → IsValid r.opening.net → (a d : DeviceId) (p : Cidr) (held : Option Choice) → holds_device r.opening.emulated d ≡ true → find (is_session a d) s.sessions ≡ None → offer_of r.opening.net a d p held ≡ None
+no_session_no_offer r s k valid a d p held m none = by_offer (offer_of r.opening.net a d p held) refl
   where
+    o : Opening
+    o = r.opening
+
     by_offer : (x : Option Route) → offer_of o.net a d p held ≡ x → x ≡ None
     by_offer None e = refl
-    by_offer (Some r) e =
-        let linked = offer_needs_link o.net a d p held r e in
+    by_offer (Some route) e =
+        let linked = offer_needs_link o.net a d p held route e in
         let ends = linked_devices o.net a d valid linked in
         absurd (true≢false (sym (linked_stands o a d ends.0 ends.1 linked m) ∙ ap (λ es. list_any (joins_ends a d) es) (sym k.ends) ∙ sym (found_by_ends a d s.sessions) ∙ ap is_some none))
 
 -- where nothing is under way and nothing is owed, what came in is what is offered
-came_is_offered : (o : Opening) (s : CoreState) → IsKept o s → IsValid o.net → All (λ x. x.mail ≡ []) s.sessions → All (λ x. owed_by s x ≡ None) s.sessions → (a d : DeviceId) (p : Cidr) → holds_device o.emulated d ≡ true → came_at s d p a ≡ offers_to o.net (held_in s) d p a
+came_is_offered : (r : RecordedOpening) (s : CoreState) → IsKept r s → IsValid r.opening.net → All (λ x. x.mail ≡ []) s.sessions → All (λ x. owed_by s x ≡ None) s.sessions → (a d : DeviceId) (p : Cidr) → holds_device r.opening.emulated d ≡ true → came_at s d p a ≡ offers_to r.opening.net (held_in s) d p a
 unfolding came_at session
-came_is_offered o s k valid no_mail none_owed a d p m =
+came_is_offered r s k valid no_mail none_owed a d p m =
+    let o = r.opening in
     elim (find (is_session a d) s.sessions) as (λ x. find (is_session a d) s.sessions ≡ x → option_map (route_with p) (fin.get (unwrap_or x (empty_session a d)).came p) ≡ offer_of o.net a d p (held_in s a p)) [
-      | None ↦ λ e. ap (option_map (route_with p)) (get_empty p) ∙ sym (no_session_no_offer o s k valid a d p (held_in s a p) m e)
+      | None ↦ λ e. ap (option_map (route_with p)) (get_empty p) ∙ sym (no_session_no_offer r s k valid a d p (held_in s a p) m e)
       | Some x ↦ λ e.
           let transit = found_has (λ (y : Session). apply_all y.came y.mail ≡ y.sent) (is_session a d) s.sessions x k.transit e in
           let empty = found_has (λ (y : Session). y.mail ≡ []) (is_session a d) s.sessions x no_mail e in
@@ -84,18 +94,29 @@ came_is_offered o s k valid no_mail none_owed a d p m =
           ap (λ n. option_map (route_with p) (fin.get n p)) arrived ∙ ap (option_map (route_with p)) sent ∙ offered_back o.net a d p (held_in s a p)
     ] refl
 
-pub quiet_stable : (o : Opening) (s : CoreState) → IsKept o s → IsValid o.net → AllEmulated o → IsQuiet s → IsStable o.net (held_in s)
-quiet_stable o s k valid all quiet d p h =
-    let m = all d h in
-    let clean : prefixes.contains (rib s d).dirty p ≡ false = ap (λ x. prefixes.contains x p) (quiet.clean d) ∙ contains-empty p in
-    let came : came_at s d p ≡ offers_to o.net (held_in s) d p = λ i a. came_is_offered o s k valid quiet.mail quiet.owed a d p m i in
-    let held : held_in s d p ≡ best_of o.net (offers_to o.net (held_in s) d p) d p = k.decided d p m clean ∙ (λ i. best_of (k.net i) (came i) d p) in
-    subst (IsBest o.net (offers_to o.net (held_in s) d p) d p) (sym held) (best_of_is_best o.net (offers_to o.net (held_in s) d p) d p)
+-- in a quiet state the emulated devices hold their best, and the others hold what they say
+quiet_inside : (r : RecordedOpening) (s : CoreState) → IsKept r s → IsValid r.opening.net → IsQuiet s → IsStableInside r.opening.net (outside_of r.opening.emulated) (said_by r.opening r.rows) (held_in s)
+quiet_inside r s k valid quiet = record {
+  best = λ d p h f.
+      let net = r.opening.net in
+      let m : holds_device r.opening.emulated d ≡ true = not-false (holds_device r.opening.emulated d) f in
+      let clean : prefixes.contains (rib s d).dirty p ≡ false = ap (λ x. prefixes.contains x p) (quiet.clean d) ∙ contains-empty p in
+      let came : came_at s d p ≡ offers_to net (held_in s) d p = λ i a. came_is_offered r s k valid quiet.mail quiet.owed a d p m i in
+      let held : held_in s d p ≡ best_of net (offers_to net (held_in s) d p) d p = k.decided d p m clean ∙ (λ i. best_of (k.net i) (came i) d p) in
+      subst (IsBest net (offers_to net (held_in s) d p) d p) (sym held) (best_of_is_best net (offers_to net (held_in s) d p) d p);
+  heard = λ d p h f. (k.speakers d (not-true (holds_device r.opening.emulated d) f)).says p;
+}
 
-pub stable_is_one : (net : Network) → IsValid net → (x y : Assignment) → IsStable net x → IsStable net y → Agree net x y
-stable_is_one net valid x y sx sy b p h =
-    let one = has_one_state net (distinct_ids net valid) in
-    sym (one.one x sx b p h) ∙ one.one y sy b p h
+-- the whole network has exactly one stable state
+pub whole_state : (r : RecordedOpening) → IsRecorded r → HasOneStableState r.opening.net
+whole_state r is = has_one_state r.opening.net (distinct_ids r.opening.net is.opening.valid)
+
+-- and the emulated devices hold what they hold in it
+pub quiet_shows : (r : RecordedOpening) (s : CoreState) (whole : Assignment) → IsRecorded r → IsKept r s → IsQuiet s → IsStable r.opening.net whole → AgreeInside r.opening.net (outside_of r.opening.emulated) (held_in s) whole
+quiet_shows r s whole is k quiet stable =
+    let o = r.opening in
+    let bounded : IsBounded o.net (outside_of o.emulated) (label_of o.labels) whole = record { valid = is.opening.valid; fitting = is.opening.fitting; certified = is.opening.certified; stable = stable } in
+    quiet_agrees o.net (outside_of o.emulated) (label_of o.labels) (said_by o r.rows) (held_in s) whole bounded is.sound (says_own o.net (label_of o.labels) r.rows) (quiet_inside r s k is.opening.valid quiet)
 
 pub quiet_holds : QuietLaw
-quiet_holds o h valid all run quiet = quiet_stable o (state o h) (run_holds o h run) valid all quiet
+quiet_holds r h whole is run quiet stable = quiet_shows r (state r h) whole is (run_holds r h run) quiet stable

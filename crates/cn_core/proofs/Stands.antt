@@ -9,7 +9,7 @@ use Rattle.cn_base.specs.declared.standing.Standing.TheVariants as stands
 use Rattle.cn_rib.specs.PrefixSet as prefixes
 use Rattle.cn_rib.proofs.Keyed.{least_of_empty, no_least}
 use Rattle.cn_net.specs.Network.{IsDevice, device_ids, same_device}
-use Rattle.cn_net.specs.Opening.{Opening}
+use Rattle.cn_record.specs.Recorded.{RecordedOpening}
 use Rattle.cn_net.proofs.Peers.{all_devices}
 use Rattle.cn_core.specs.declared.message.Message.{Message}
 use Rattle.cn_core.specs.declared.session.Rib.{Rib}
@@ -45,8 +45,8 @@ owed_none s x e = none_if (owed_by s x) (sym (ap (λ b. b && is_some (owed_by s 
 idle_at : (s : CoreState) (d : DeviceId) → first_pending s ≡ None → IsDevice s.net d → is_pending s d ≡ false
 idle_at s d e h = at_member (λ z. is_pending s z ≡ false) (device_ids s.net) d (none_passes (is_pending s) (device_ids s.net) e) (all_devices s.net d h)
 
-clean_at : (o : Opening) (s : CoreState) → IsKept o s → first_pending s ≡ None → (d : DeviceId) → (rib s d).dirty ≡ prefixes.empty
-clean_at o s k e d =
+clean_at : (r : RecordedOpening) (s : CoreState) → IsKept r s → first_pending s ≡ None → (d : DeviceId) → (rib s d).dirty ≡ prefixes.empty
+clean_at r s k e d =
     elim (cases_lt d.0 (length s.ribs)) [
       | inl in' ↦
           let h : IsDevice s.net d = subst (λ n. d.0 < length n.devices) (sym k.net) (subst (λ l. d.0 < l) k.ribs in') in
@@ -54,13 +54,13 @@ clean_at o s k e d =
       | inr out ↦ ap (λ (x : Rib). x.dirty) (rib_past s d out)
     ]
 
-pub stands_quiet : (o : Opening) (s : CoreState) → IsKept o s → find has_mail s.sessions ≡ None → first_pending s ≡ None → IsQuiet s
-stands_quiet o s k m e = record {
+pub stands_quiet : (r : RecordedOpening) (s : CoreState) → IsKept r s → find has_mail s.sessions ≡ None → first_pending s ≡ None → IsQuiet s
+stands_quiet r s k m e = record {
   mail = λ i x lt. no_messages _ (none_passes has_mail s.sessions m i x lt);
-  clean = clean_at o s k e;
+  clean = clean_at r s k e;
   owed = λ i x lt.
       let y = slice_index_or s.sessions i x in
-      let h : IsDevice s.net y.from = subst (λ n. y.from.0 < length n.devices) (sym k.net) (within o s k.ends i x lt).0 in
+      let h : IsDevice s.net y.from = subst (λ n. y.from.0 < length n.devices) (sym k.net) (within r.opening s k.ends i x lt).0 in
       let idle = (or_parts _ _ (idle_at s y.from e h)).1 in
       owed_none s y (none_passes (owes_from s y.from) s.sessions (none_if _ idle) i x lt);
 }
@@ -83,11 +83,11 @@ quiet_stands s q = (
   nothing_found (is_pending s) (device_ids s.net) (λ i d lt. not_pending s q (slice_index_or (device_ids s.net) i d)),
 )
 
-pub standing_is : (o : Opening) (s : CoreState) → IsKept o s → (standing s ≡ stands.Quiet) ↔ IsQuiet s
-standing_is o s k = (
-  λ e. let parts = quiet_standing (find has_mail s.sessions) (first_pending s) e in stands_quiet o s k parts.0 parts.1,
+pub standing_is : (r : RecordedOpening) (s : CoreState) → IsKept r s → (standing s ≡ stands.Quiet) ↔ IsQuiet s
+standing_is r s k = (
+  λ e. let parts = quiet_standing (find has_mail s.sessions) (first_pending s) e in stands_quiet r s k parts.0 parts.1,
   λ q. let parts = quiet_stands s q in λ i. standing_of (parts.0 i) (parts.1 i),
 )
 
 pub standing_holds : StandingLaw
-standing_holds o h run = standing_is o (state o h) (run_holds o h run)
+standing_holds r h run = standing_is r (state r h) (run_holds r h run)

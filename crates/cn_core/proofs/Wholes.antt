@@ -9,9 +9,10 @@ use Rattle.cn_net.specs.Network.{Network, IsDevice, device_ids, is_linked, peers
 use Rattle.cn_net.specs.Opening.{Opening}
 use Rattle.cn_net.specs.Valid.{IsValid}
 use Rattle.cn_net.proofs.Chains.{linked_back}
+use Rattle.cn_record.specs.Recorded.{RecordedOpening}
 use Rattle.cn_core.specs.declared.session.Session.{Session}
 use Rattle.cn_core.specs.Laws.{IsKept, ends_of, links_into}
-use Rattle.cn_core.specs.Machine.{receivers}
+use Rattle.cn_core.specs.Start.{receivers}
 use Rattle.cn_core.specs.State.{CoreState}
 use Rattle.cn_core.specs.Whole.{IsWhole, by_ends}
 use Rattle.cn_core.proofs.Ends.{all_by_ends, links_ascend, pair_cmp, pairs_by_ends}
@@ -41,11 +42,11 @@ linked : (o : Opening) (s : CoreState) → ends_of s.sessions ≡ links_into o �
 linked o s e =
     all_by_ends (λ (z : DeviceId × DeviceId). is_linked o.net z.1 z.0 ≡ true) s.sessions (subst (All (λ (z : DeviceId × DeviceId). is_linked o.net z.1 z.0 ≡ true)) (sym e) (links_linked o))
 
-pub whole_of : (o : Opening) (s : CoreState) → IsValid o.net → IsKept o s → IsWhole s
-whole_of o s valid k = record {
-  ascending = ascending o s k.ends;
-  within = subst (λ n. All (λ (x : Session). IsDevice n x.from × IsDevice n x.to) s.sessions) (sym k.net) (within o s k.ends);
-  linked = subst (λ n. All (λ (x : Session). is_linked n x.to x.from ≡ true) s.sessions) (sym k.net) (linked o s k.ends);
+pub whole_of : (r : RecordedOpening) (s : CoreState) → IsValid r.opening.net → IsKept r s → IsWhole s
+whole_of r s valid k = record {
+  ascending = ascending r.opening s k.ends;
+  within = subst (λ n. All (λ (x : Session). IsDevice n x.from × IsDevice n x.to) s.sessions) (sym k.net) (within r.opening s k.ends);
+  linked = subst (λ n. All (λ (x : Session). is_linked n x.to x.from ≡ true) s.sessions) (sym k.net) (linked r.opening s k.ends);
   ribs = k.ribs ∙ ap (λ n. length n.devices) (sym k.net);
   few = subst (λ n. length n.devices ≤ 4096) (sym k.net) valid.few_devices;
 }

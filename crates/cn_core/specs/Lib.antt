@@ -1,4 +1,5 @@
 pub mod State
+pub mod Start
 pub mod Machine
 pub mod Parts
 pub mod Order

@@ -1,6 +1,6 @@
 -- The events of the core, each with the condition under which it is enabled and its one result.
-use Rattle.std.specs.Prelude.{Bool, ◌&&◌, List, [], ◌∷◌, ◌++◌, length, Option, Some, None, is_some, option_map, slice_set, map, if◌then◌else◌, nat_lt, IsTrue, unwrap_or}
-use Rattle.std.specs.List.{filter, find, flat_map, fold}
+use Rattle.std.specs.Prelude.{Bool, ◌&&◌, List, [], ◌∷◌, ◌++◌, length, Option, Some, None, is_some, option_map, slice_set, if◌then◌else◌, nat_lt, IsTrue}
+use Rattle.std.specs.List.{find, fold}
 use Rattle.std.specs.FinMap.{FinMap}
 use Rattle.std.specs.FinMap as fin
 use Rattle.cn_base.specs.Cidr.{Cidr}
@@ -11,9 +11,7 @@ use Rattle.cn_base.specs.declared.route.Route.{Route}
 use Rattle.cn_rib.specs.PrefixSet as set
 use Rattle.cn_rib.specs.declared.attributes.Attributes.{Attributes}
 use Rattle.cn_net.specs.Candidates.{best_of}
-use Rattle.cn_net.specs.Islands.{holds_device}
-use Rattle.cn_net.specs.Network.{Network, device_ids, device_of, peers_of}
-use Rattle.cn_net.specs.Opening.{Opening}
+use Rattle.cn_record.specs.Recorded.{RecordedOpening}
 use Rattle.cn_core.specs.declared.event.Event.{Event}
 use Rattle.cn_core.specs.declared.event.Event.TheVariants.{Receive, Decide, Send}
 use Rattle.cn_core.specs.declared.event.Step.{Step}
@@ -21,7 +19,8 @@ use Rattle.cn_core.specs.declared.event.Step.TheVariants.{Work, Mark}
 use Rattle.cn_core.specs.declared.message.Message.{Message}
 use Rattle.cn_core.specs.declared.session.Rib.{Rib}
 use Rattle.cn_core.specs.declared.session.Session.{Session}
-use Rattle.cn_core.specs.State.{CoreState, is_session, empty_session, session, empty_rib, rib, prefix_of, apply, owed_by}
+use Rattle.cn_core.specs.Start.{start}
+use Rattle.cn_core.specs.State.{CoreState, is_session, session, rib, prefix_of, apply, owed_by}
 
 -- ---- a change in one place, all else as it is
 
@@ -98,39 +97,16 @@ abbrev pub step : CoreState → Step → CoreState
 step s (Work e) = after_event s e
 step s (Mark k) = s
 
--- ---- the start: all is empty, but that the own prefixes of each emulated device are dirty
-
--- the emulated devices to which a is linked, in ascending order
-abbrev pub receivers : Opening → DeviceId → List DeviceId
-receivers o a = filter (holds_device o.emulated) (peers_of o.net a)
-
--- a session for each direction of a link whose receiver is emulated, by (from, to)
-unfoldable pub first_sessions : Opening → List Session
-first_sessions o = flat_map (λ a. map (empty_session a) (receivers o a)) (device_ids o.net)
-
-abbrev pub own_prefixes : Network → DeviceId → List Cidr
-own_prefixes net d = unwrap_or (option_map (λ x. map (λ o. o.prefix) x.body.own) (device_of net d)) []
-
-abbrev pub first_rib : Opening → DeviceId → Rib
-first_rib o d = if holds_device o.emulated d then record { best = fin.empty; dirty = set.insert_all set.empty (own_prefixes o.net d) } else empty_rib
-
--- what each device holds, by its number
-unfoldable pub first_ribs : Opening → List Rib
-first_ribs o = map (first_rib o) (device_ids o.net)
-
-unfoldable pub start : Opening → CoreState
-start o = record { net = o.net; sessions = first_sessions o; ribs = first_ribs o }
-
 -- ---- histories
 
 -- the state after a history
-unfoldable pub state : Opening → List Step → CoreState
-state o h = fold step (start o) h
+unfoldable pub state : RecordedOpening → List Step → CoreState
+state r h = fold step (start r) h
 
 abbrev pub IsRunFrom : CoreState → List Step → Type 0
 IsRunFrom s [] = Unit {0}
 IsRunFrom s (e ∷ es) = IsEnabled s e × IsRunFrom (step s e) es
 
 -- each step is enabled where it stands
-unfoldable pub IsRun : Opening → List Step → Type 0
-IsRun o h = IsRunFrom (start o) h
+unfoldable pub IsRun : RecordedOpening → List Step → Type 0
+IsRun r h = IsRunFrom (start r) h

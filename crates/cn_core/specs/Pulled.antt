@@ -1,8 +1,6 @@
 -- What a pull answers, by the state.
 use Rattle.std.specs.Prelude.{◌≡◌, List}
-use Rattle.cn_net.specs.OneState.{Agree}
-use Rattle.cn_net.specs.Stable.{Assignment, IsStable}
-use Rattle.cn_core.specs.Laws.{held_in}
+use Rattle.cn_net.specs.OneState.{HasOneStableState}
 use Rattle.cn_core.specs.Log.{Log, now}
 use Rattle.cn_core.specs.Order.{IsQuiet, standing}
 use Rattle.cn_core.specs.Tables.{AreTables}
@@ -10,12 +8,12 @@ use Rattle.cn_core.specs.declared.pull.DeviceTable.{DeviceTable}
 use Rattle.cn_core.specs.declared.pull.Pull.{Pull}
 use Rattle.cn_core.specs.declared.pull.Pull.TheVariants as answer
 
--- the state is quiet, it is the one stable state of the network, and the tables are those of the emulated devices
+-- The state is quiet, and the tables are those of the emulated devices in the one stable state of the whole network, in which
+-- the devices that aren't emulated decide too, and there is no speaker, no record and no message.
 pub record IsQuietAnswer (l : Log) (tables : List DeviceTable) : Type 0 where
   pub quiet : IsQuiet (now l)
-  pub shown : AreTables l.opening.emulated (held_in (now l)) tables
-  pub stable : IsStable l.opening.net (held_in (now l))
-  pub one : (other : Assignment) → IsStable l.opening.net other → Agree l.opening.net (held_in (now l)) other
+  pub whole : HasOneStableState l.recorded.opening.net
+  pub shown : AreTables l.recorded.opening.emulated whole.state tables
 
 -- Tables come exactly where the state is quiet; where it isn't, the first thing that is pending comes.
 abbrev pub IsPulled : Log → Pull → Type 0

@@ -1,7 +1,7 @@
 //! The core: its state is that of its own history.
 
 ghost use Rattle.std.specs.Prelude.{◌≡◌, [], IfErr, IfOk, OnErr, OnOk};
-ghost use Rattle.cn_core.specs.Laws.{AllEmulated, IsKept};
+ghost use Rattle.cn_core.specs.Laws.{IsKept};
 ghost use Rattle.cn_core.specs.Log.{CanStep, IsRefusal, Log as LogValue, now, then};
 ghost use Rattle.cn_core.specs.Machine.{IsRun};
 ghost use Rattle.cn_core.specs.Order.{first_event, standing};
@@ -12,7 +12,8 @@ use crate::event::{Event, Step};
 use crate::pull::Pull;
 use crate::start::open;
 use cn_base::Standing;
-use cn_net::{Certified, DeviceSet, Net};
+use cn_net::{DeviceSet, Net};
+use cn_record::Recorded;
 use std::alloc::{AllocError, Global};
 use std::marker::Model;
 use std::snapshot::Snapshot;
@@ -26,11 +27,11 @@ pub enum StepAnswer {
     Memory,
 }
 
-/// A network and its emulated devices, the steps so far, and the state to which they led. Contracts see
-/// the opening and the history; the state is what they say that it is.
+/// A network with its emulated devices and its speakers, the steps so far, and the state to which they
+/// led. Contracts see the recorded opening and the history; the state is what they say that it is.
 #[derive(Drop)]
 pub struct Core {
-    opening: Snapshot<Certified>,
+    recorded: Snapshot<Recorded>,
     emulated: DeviceSet,
     engine: Engine,
     history: Vec<Step>,
@@ -45,29 +46,29 @@ impl Model for Core {
 
     ghost coded = { log_code };
 
-    ghost view = { λ c. record { opening = c.opening.value; history = c.history.items } };
+    ghost view = { λ c. record { recorded = c.recorded.value; history = c.history.items } };
 
-    ghost invariant = { λ c. IsState c.opening.value c.history.items c.engine × (c.emulated ≡ c.opening.value.emulated) };
+    ghost invariant = { λ c. IsState c.recorded.value c.history.items c.engine × (c.emulated ≡ c.recorded.value.opening.emulated) };
 }
 
 impl Core {
-    /// The core of an opening in which every device is emulated, at the start. The opening is handed back
-    /// for want of memory alone.
-    pub fn start(alloc: Global, certified: Certified) -> Result<Core, Certified>
-        requires { AllEmulated certified }
-        ensures ok { IfOk result (λ core. core ≡ record { opening = certified; history = [] }) }
-        ensures err { IfErr result (λ back. back ≡ certified) }
+    /// The core at the start: the emulated devices, and a static speaker in place of each other device,
+    /// which says what is recorded of it for the prefixes of its island and takes in nothing. The opening
+    /// is handed back for want of memory alone.
+    pub fn start(alloc: Global, recorded: Recorded) -> Result<Core, Recorded>
+        ensures ok { IfOk result (λ core. core ≡ record { recorded = recorded; history = [] }) }
+        ensures err { IfErr result (λ back. back ≡ recorded) }
     {
-        certified.valid();
-        let opening = Snapshot::of(&certified);
-        match open(alloc, certified) {
+        recorded.valid();
+        let opening = Snapshot::of(&recorded);
+        match open(alloc, recorded) {
             Ok((engine, emulated)) => Ok(Core {
-                opening,
+                recorded: opening,
                 emulated,
                 engine,
                 history: Vec::new(alloc),
             }),
-            Err(certified) => Err(certified),
+            Err(recorded) => Err(recorded),
         }
     }
 
@@ -108,7 +109,7 @@ impl Core {
     /// The first event in the serial order. None comes exactly where the state is quiet. It takes no memory.
     pub fn first(&self) -> Option<Event>
         ensures event { result ≡ first_event (now self.now) }
-        ensures kept { IsKept self.now.opening (now self.now) }
+        ensures kept { IsKept self.now.recorded (now self.now) }
     {
         self.engine.first()
     }
@@ -121,11 +122,12 @@ impl Core {
     }
 
     /// The tables of the emulated devices exactly where the state is quiet, and they are then those of the
-    /// one stable state of the network; and else what is pending first. The error is want of memory.
+    /// one stable state of the whole network, over all devices and without speakers; and else what is
+    /// pending first, a speaker's message too. The error is want of memory.
     pub fn pull(&self, alloc: Global) -> Result<Pull, AllocError>
         ensures { IfOk result (λ pull. IsPulled self.now pull) }
     {
-        match self.engine.standing() {
+        match self.standing() {
             Standing::Quiet => Ok(Pull::Quiet {
                 tables: self.engine.tables(alloc, &self.emulated)?,
             }),
@@ -136,7 +138,7 @@ impl Core {
     /// The steps so far. Each event was enabled where it happened.
     pub fn history(&self) -> &[Step]
         ensures same { result.now ≡ self.now.history }
-        ensures run { IsRun self.now.opening self.now.history }
+        ensures run { IsRun self.now.recorded self.now.history }
     {
         &self.history
     }
@@ -144,7 +146,7 @@ impl Core {
     /// The network now.
     pub fn net(&self) -> &Net
         ensures net { result.now ≡ (now self.now).net }
-        ensures kept { IsKept self.now.opening (now self.now) }
+        ensures kept { IsKept self.now.recorded (now self.now) }
     {
         &self.engine.net
     }

@@ -3,13 +3,14 @@
 ghost use Rattle.cn_core.specs.Laws.{FirstLaw, OwedLaw, QuietLaw, RunLaw, StandingLaw};
 
 /// The invariants hold after every run: the messages of each mailbox lead from what came in to what was
-/// sent, a clean prefix has the best choice that a decision would give, and a mailbox holds at most 64
-/// messages.
+/// sent, a clean prefix has the best choice that a decision would give, a mailbox holds at most 64
+/// messages, and each speaker holds what it says.
 pub fn run_law()
     ensures { RunLaw }
 {}
 
-/// A quiet state is a stable state of the network.
+/// In a quiet state the emulated devices hold what they hold in a stable state of the whole network, of
+/// which there is exactly one.
 pub fn quiet_law()
     ensures { QuietLaw }
 {}

@@ -1,20 +1,21 @@
-//! The state at the start: all is empty, but that the own prefixes of each emulated device are dirty.
+//! The state at the start: nothing was sent, the own prefixes of each emulated device are dirty, and each
+//! speaker holds what it says.
 
-ghost use Rattle.std.specs.Prelude.{◌≡◌, ◌++◌, ◌∷◌, ◌<◌, [], IfErr, IfOk, OnOk, length, map};
+ghost use Rattle.std.specs.Prelude.{◌≡◌, ◌++◌, ◌∷◌, [], IfErr, IfOk, OnOk, map, option_copied};
 ghost use Rattle.std.specs.List.{filter};
 ghost use Rattle.cn_net.specs.Islands.{holds_device};
-ghost use Rattle.cn_net.specs.Network.{IsDevice, peers_of};
-ghost use Rattle.cn_net.specs.Opening.{Opening};
-ghost use Rattle.cn_core.specs.Machine.{first_rib, first_ribs, first_sessions, own_prefixes, start};
+ghost use Rattle.cn_net.specs.Network.{peers_of};
+ghost use Rattle.cn_record.specs.Rows.{AscendsByPair};
+ghost use Rattle.cn_core.specs.Start.{emulated_rib, first_rib, first_ribs, first_sessions, rows_of, said_routes, speaker_rib, start, with_choice};
 ghost use Rattle.cn_core.specs.State.{empty_session};
 ghost use Rattle.cn_rib.specs.PrefixSet as set;
-ghost use Rattle.std.specs.FinMap as fin;
 
 use crate::engine::Engine;
 use crate::session::{Rib, Session};
-use cn_base::DeviceId;
+use cn_base::{Choice, DeviceId, Prefix};
 use cn_mail::Mailbox;
 use cn_net::{Certified, DeviceSet, Net, Own};
+use cn_record::{Recorded, Row};
 use cn_rib::{PrefixMap, PrefixSet};
 use std::alloc::{AllocError, Global};
 
@@ -91,10 +92,10 @@ fn own_dirty(alloc: Global, own: &[Own]) -> Result<PrefixSet, AllocError>
 }
 
 // What an emulated device holds at the start.
-fn emulated_rib(alloc: Global, net: &Net, device: DeviceId) -> Result<Rib, AllocError>
-    ensures { IfOk result (λ rib. rib ≡ record { best = fin.empty; dirty = set.insert_all set.empty (own_prefixes net.now device) }) }
+fn emulated_rib(alloc: Global, certified: &Certified, device: DeviceId) -> Result<Rib, AllocError>
+    ensures { IfOk result (λ rib. rib ≡ emulated_rib certified.now device) }
 {
-    let dirty = match net.device(device) {
+    let dirty = match certified.net().device(device) {
         Some(device) => own_dirty(alloc, device.body.own.items())?,
         None => PrefixSet::new(alloc),
     };
@@ -104,37 +105,92 @@ fn emulated_rib(alloc: Global, net: &Net, device: DeviceId) -> Result<Rib, Alloc
     })
 }
 
-fn rib(alloc: Global, certified: &Certified, device: DeviceId) -> Result<Rib, AllocError>
-    ensures { IfOk result (λ rib. rib ≡ first_rib certified.now device) }
+// The rows that are recorded of a device: they stand together, and are found by halving.
+fn rows_of(rows: &[Row], device: DeviceId) -> &[Row]
+    requires { AscendsByPair rows.now }
+    ensures { result.now ≡ rows_of rows.now device }
 {
-    if certified.emulated().holds(device) {
-        return emulated_rib(alloc, certified.net(), device);
+    let end = rows.partition_point(|row| row.device <= device);
+    let front = &rows[..end];
+    let start = front.partition_point(|row| row.device < device);
+    &front[start..]
+}
+
+// The choice is held too, if there is one.
+fn hold(
+    alloc: Global,
+    routes: &mut PrefixMap<Choice>,
+    prefix: Prefix,
+    choice: Option<&Choice>,
+) -> Result<(), AllocError>
+    ensures { OnOk result (routes.new ≡ with_choice routes.old prefix (option_copied choice.entry)) }
+{
+    match choice {
+        Some(choice) => routes.insert(prefix, choice.copy(alloc)?),
+        None => Ok(()),
     }
+}
+
+// What a speaker says.
+fn said_routes(
+    alloc: Global,
+    recorded: &Recorded,
+    device: DeviceId,
+) -> Result<PrefixMap<Choice>, AllocError>
+    ensures { IfOk result (λ routes. routes ≡ said_routes recorded.now device) }
+{
+    recorded.valid();
+    let mut routes = PrefixMap::new(alloc);
+    for row in rows_of(recorded.rows(), device) {
+        let said = recorded.said(device, &row.prefix);
+        hold(alloc, &mut routes, row.prefix, said)?;
+    }
+    Ok(routes)
+}
+
+// What a speaker holds from the start.
+fn speaker_rib(alloc: Global, recorded: &Recorded, device: DeviceId) -> Result<Rib, AllocError>
+    ensures { IfOk result (λ rib. rib ≡ speaker_rib recorded.now device) }
+{
     Ok(Rib {
-        best: PrefixMap::new(alloc),
+        best: said_routes(alloc, recorded, device)?,
         dirty: PrefixSet::new(alloc),
     })
 }
 
-fn ribs(alloc: Global, certified: &Certified) -> Result<Vec<Rib>, AllocError>
-    ensures { IfOk result (λ ribs. ribs.items ≡ first_ribs certified.now) }
+fn rib(alloc: Global, recorded: &Recorded, device: DeviceId) -> Result<Rib, AllocError>
+    ensures { IfOk result (λ rib. rib ≡ first_rib recorded.now device) }
+{
+    let certified = recorded.certified();
+    if certified.emulated().holds(device) {
+        return emulated_rib(alloc, certified, device);
+    }
+    speaker_rib(alloc, recorded, device)
+}
+
+fn ribs(alloc: Global, recorded: &Recorded) -> Result<Vec<Rib>, AllocError>
+    ensures { IfOk result (λ ribs. ribs.items ≡ first_ribs recorded.now) }
 {
     let mut ribs = Vec::new(alloc);
-    for device in 0..certified.net().count() {
-        ribs.push(rib(alloc, certified, DeviceId(device))?)?;
+    for device in 0..recorded.certified().net().count() {
+        ribs.push(rib(alloc, recorded, DeviceId(device))?)?;
     }
     Ok(ribs)
 }
 
 /// The state at the start, and the emulated devices. The opening is handed back for want of memory.
-#[tactic(auto, unfolding(crate::specs::Machine::start))]
-pub fn open(alloc: Global, certified: Certified) -> Result<(Engine, DeviceSet), Certified>
-    ensures engine { IfOk result (λ made. made.0 ≡ start certified) }
-    ensures emulated { IfOk result (λ made. made.1 ≡ certified.emulated) }
-    ensures err { IfErr result (λ back. back ≡ certified) }
+#[tactic(auto, unfolding(crate::specs::Start::start))]
+pub fn open(alloc: Global, recorded: Recorded) -> Result<(Engine, DeviceSet), Recorded>
+    ensures engine { IfOk result (λ made. made.0 ≡ start recorded) }
+    ensures emulated { IfOk result (λ made. made.1 ≡ recorded.opening.emulated) }
+    ensures err { IfErr result (λ back. back ≡ recorded) }
 {
-    match (sessions(alloc, &certified), ribs(alloc, &certified)) {
+    match (
+        sessions(alloc, recorded.certified()),
+        ribs(alloc, &recorded),
+    ) {
         (Ok(sessions), Ok(ribs)) => {
+            let (certified, _) = recorded.parts();
             let (net, emulated, _) = certified.parts();
             let engine = Engine {
                 net,
@@ -143,6 +199,6 @@ pub fn open(alloc: Global, certified: Certified) -> Result<(Engine, DeviceSet), 
             };
             Ok((engine, emulated))
         }
-        _ => Err(certified),
+        _ => Err(recorded),
     }
 }

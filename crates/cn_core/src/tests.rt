@@ -1,104 +1,28 @@
-ghost use Rattle.std.specs.Prelude.{◌≡◌, true, All, IfOk};
-ghost use Rattle.cn_base.specs.declared.ids.DeviceId.{DeviceId as DeviceNumber};
-ghost use Rattle.cn_core.specs.Laws.{AllEmulated};
-ghost use Rattle.cn_net.specs.Islands.{holds_device};
-ghost use Rattle.cn_net.specs.Network.{IsDevice};
+mod opening;
 
 use super::*;
-use cn_base::{Asn, Choice, DeviceId, Items, Name, Origin, Prefix, RouterId, Standing};
-use cn_net::{BodyDraft, Certified, DeviceDraft, DeviceSet, Draft, Labels, LinkDraft, Net, Own};
-use std::alloc::{AllocError, Global};
+use cn_base::{Asn, Choice, Prefix, Standing};
+use cn_record::{Recorded, Row};
+use opening::{LEAF, RACK, both, leaf_prefix, own, own_row, rack_prefix, rack_speaks, stale_row};
+use std::alloc::Global;
 use std::test::Fail;
 
-// A rack and the leaf above it, by number.
-const RACK: DeviceId = DeviceId(0);
-
-const LEAF: DeviceId = DeviceId(1);
-
-fn name(alloc: Global, text: &str) -> Result<Name, Fail> {
-    Ok(Name::new(alloc, text)?.ok_or("no name")?)
-}
-
-fn rack_prefix() -> Result<Prefix, Fail> {
-    Ok(Prefix::new(0x0A01_0100, 24).ok_or("no prefix")?)
-}
-
-fn device(alloc: Global, text: &str, asn: u32, own: Vec<Own>) -> Result<DeviceDraft, Fail> {
-    Ok(DeviceDraft {
-        name: name(alloc, text)?,
-        layer: 0,
-        id: RouterId(asn),
-        body: BodyDraft {
-            asn: Asn(asn),
-            own: Items::make(own),
-        },
-    })
-}
-
-fn devices(alloc: Global) -> Result<Vec<DeviceDraft>, Fail> {
-    let own = Own {
-        prefix: rack_prefix()?,
-        origin: Origin::Igp,
-    };
-    Ok(vec![in alloc;
-        device(alloc, "t1", 65101, vec![in alloc; own]?)?,
-        device(alloc, "l1", 65201, Vec::new(alloc))?,
-    ]?)
-}
-
-// The rack originates a prefix, and the leaf nothing.
-fn network(alloc: Global) -> Result<Net, Fail> {
-    let link = LinkDraft {
-        a: name(alloc, "t1")?,
-        b: name(alloc, "l1")?,
-        up: true,
-    };
-    let draft = Draft {
-        devices: Items::make(devices(alloc)?),
-        links: Items::make(vec![in alloc; link]?),
-    };
-    Ok(Net::make(alloc, &draft)?)
-}
-
-// The set of all devices.
-fn all_devices(alloc: Global, net: &Net) -> Result<DeviceSet, AllocError>
-    ensures { IfOk result (λ set. All (IsDevice net.now) set) }
-{
-    let mut devices = Vec::new(alloc);
-    for number in 0..net.count() {
-        devices.push(DeviceId(number))?;
-    }
-    Ok(DeviceSet::make(net, devices))
-}
-
-// Ok comes only where the set holds each device.
-fn hold_each(net: &Net, set: &DeviceSet) -> Result<(), Fail>
-    ensures { IfOk result (λ done. (d : DeviceNumber) → IsDevice net.now d → holds_device set.now d ≡ true) }
-{
-    for number in 0..net.count() {
-        if !set.holds(DeviceId(number)) {
-            return Err(Fail::new("outside"));
-        }
-    }
-    Ok(())
-}
-
-// The network with each device emulated.
-fn opening(alloc: Global) -> Result<Certified, Fail>
-    ensures { IfOk result (λ certified. AllEmulated certified) }
-{
-    let net = network(alloc)?;
-    let emulated = all_devices(alloc, &net)?;
-    hold_each(&net, &emulated)?;
-    let labels = Labels::make(Vec::new(alloc));
-    Ok(Certified::make(net, emulated, labels))
-}
-
-fn fresh(alloc: Global) -> Result<Core, Fail> {
-    match Core::start(alloc, opening(alloc)?) {
+fn started(alloc: Global, recorded: Recorded) -> Result<Core, Fail> {
+    match Core::start(alloc, recorded) {
         Ok(core) => Ok(core),
         Err(_) => Err(Fail::new("no memory")),
     }
+}
+
+// The rack and the leaf, both emulated.
+fn fresh(alloc: Global) -> Result<Core, Fail> {
+    started(alloc, both(alloc)?)
+}
+
+// The leaf with the rack as a speaker, which says its own route.
+fn beside_a_speaker(alloc: Global) -> Result<Core, Fail> {
+    let rows = vec![in alloc; own_row(alloc)?]?;
+    started(alloc, rack_speaks(alloc, Vec::new(alloc), rows)?)
 }
 
 // The first event, so many times or until there is none.
@@ -119,6 +43,14 @@ fn line(step: &Step) -> (char, u32, u32) {
         Step::Work(Event::Decide { device, .. }) => ('d', device.0, device.0),
         Step::Work(Event::Send { from, to }) => ('s', from.0, to.0),
         Step::Mark { k } => ('m', *k, *k),
+    }
+}
+
+// How many devices a quiet answer shows.
+fn shown(pull: &Pull) -> usize {
+    match pull {
+        Pull::Quiet { tables } => tables.items().len(),
+        Pull::Again { .. } => 0,
     }
 }
 
@@ -180,6 +112,7 @@ fn quiet_tables(rt: HostRuntime) -> Result<(), Fail> {
     let choice = held(&pull, 1, &rack_prefix()?).ok_or("nothing is held")?;
     assert_eq!(rt; choice.from, Some(RACK));
     assert_eq!(rt; choice.path.items(), [Asn(65101)].as_slice());
+    assert_eq!(rt; shown(&pull), 2);
     Ok(())
 }
 
@@ -194,5 +127,69 @@ fn mail_is_pending(rt: HostRuntime) -> Result<(), Fail> {
         to: LEAF,
     };
     assert!(rt; matches!(core.pull(alloc)?, Pull::Again { standing } if standing == mail));
+    Ok(())
+}
+
+// A speaker has nothing to decide. It owes what it says from the start, and until it has sent that no pull is
+// quiet.
+#[test]
+fn a_speaker_is_pending(rt: HostRuntime) -> Result<(), Fail> {
+    let alloc = rt.alloc();
+    let core = beside_a_speaker(alloc)?;
+    let rack = Standing::Device { device: RACK };
+    assert_eq!(rt; core.standing(), rack);
+    assert!(rt;
+        matches!(
+            core.first(),
+            Some(Event::Send {
+                from: RACK,
+                to: LEAF
+            })
+        )
+    );
+    assert!(rt; matches!(core.pull(alloc)?, Pull::Again { standing } if standing == rack));
+    Ok(())
+}
+
+// No session leads to a speaker: the leaf sends it nothing, though it holds a route.
+#[test]
+fn a_speaker_takes_in_nothing(rt: HostRuntime) -> Result<(), Fail> {
+    let alloc = rt.alloc();
+    let mut core = beside_a_speaker(alloc)?;
+    run(alloc, &mut core, 100)?;
+    let lines = [('s', 0u32, 1u32), ('r', 0, 1), ('d', 1, 1)];
+    assert!(rt; core.history().iter().map(line).eq(lines.iter().copied()));
+    let back = Event::Send {
+        from: LEAF,
+        to: RACK,
+    };
+    assert_eq!(rt; core.step(alloc, back), Err(StepAnswer::NotEnabled));
+    Ok(())
+}
+
+// The table of the emulated leaf, and no other, is shown.
+#[test]
+fn quiet_beside_a_speaker(rt: HostRuntime) -> Result<(), Fail> {
+    let alloc = rt.alloc();
+    let mut core = beside_a_speaker(alloc)?;
+    run(alloc, &mut core, 100)?;
+    let pull = core.pull(alloc)?;
+    let choice = held(&pull, 0, &rack_prefix()?).ok_or("nothing is held")?;
+    assert_eq!(rt; choice.from, Some(RACK));
+    assert_eq!(rt; choice.path.items(), [Asn(65101)].as_slice());
+    assert_eq!(rt; shown(&pull), 1);
+    Ok(())
+}
+
+// What is recorded of the rack for the leaf's prefix isn't said: it isn't of the rack's island.
+#[test]
+fn a_stale_row_is_not_said(rt: HostRuntime) -> Result<(), Fail> {
+    let alloc = rt.alloc();
+    let rows: Vec<Row> = vec![in alloc; stale_row(alloc)?, own_row(alloc)?]?;
+    let leaf_own = own(alloc, leaf_prefix()?)?;
+    let mut core = started(alloc, rack_speaks(alloc, leaf_own, rows)?)?;
+    run(alloc, &mut core, 100)?;
+    let lines = [('s', 0u32, 1u32), ('r', 0, 1), ('d', 1, 1), ('d', 1, 1)];
+    assert!(rt; core.history().iter().map(line).eq(lines.iter().copied()));
     Ok(())
 }

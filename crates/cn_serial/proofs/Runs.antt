@@ -2,13 +2,14 @@
 use Rattle.std.proofs.Common.{◌≡◌, ℕ, zero, suc, ◌+◌, ◌-◌, ◌<◌, ◌≤◌, List, [], ◌∷◌, ◌++◌, length, get_or, take, map, Some, None, refl, sym, ap, ◌∙◌, subst, arith, append_assoc, append-nil}
 use Rattle.std.specs.List.{fold}
 use Rattle.std.proofs.lemmas.List.{length-take-le, take_all, take_more}
-use Rattle.cn_net.specs.Opening.{Opening}
+use Rattle.cn_record.specs.Recorded.{RecordedOpening}
 use Rattle.cn_core.specs.declared.answer.Answer.{Answer}
 use Rattle.cn_core.specs.declared.event.Event.{Event}
 use Rattle.cn_core.specs.declared.event.Step.{Step}
 use Rattle.cn_core.specs.declared.event.Step.TheVariants.{Work, Mark}
 use Rattle.cn_core.specs.Log.{Log, now, then}
-use Rattle.cn_core.specs.Machine.{after_event, start, state, step}
+use Rattle.cn_core.specs.Machine.{after_event, state, step}
+use Rattle.cn_core.specs.Start.{start}
 use Rattle.cn_core.specs.Order.{first_event}
 use Rattle.cn_core.specs.State.{CoreState}
 use Rattle.cn_core.proofs.Logged.{state_nil, state_push}
@@ -36,7 +37,7 @@ no_events s = refl
 pub happened : (l m : Log) (e : Event) (n i : ℕ) → i < n → first_event (now l) ≡ Some e → m ≡ then l (Work e) → m.history ++ map Work (first_events (now m) (n - (i + 1))) ≡ l.history ++ map Work (first_events (now l) (n - i))
 happened l m e n i lt is grown =
     let left : n - i ≡ suc (n - (i + 1)) = omega (arith, lt) in
-    let later : now m ≡ after_event (now l) e = ap now grown ∙ state_push l.opening l.history (Work e) in
+    let later : now m ≡ after_event (now l) e = ap now grown ∙ state_push l.recorded l.history (Work e) in
     (λ j. (grown j).history ++ map Work (first_events (later j) (n - (i + 1))))
     ∙ append_assoc l.history (Work e ∷ []) (map Work (first_events (after_event (now l) e) (n - (i + 1))))
     ∙ ap (λ es. l.history ++ map Work es) (sym (some_first (now l) (n - (i + 1)) e is))
@@ -73,21 +74,21 @@ answers_push l k (y ∷ cs) (x ∷ more) c a so is =
 
 -- what the log comes to
 
-log_opening : (l : Log) (k : ℕ) (cs : List Command) → (log_after l k cs).opening ≡ l.opening
+log_recorded : (l : Log) (k : ℕ) (cs : List Command) → (log_after l k cs).recorded ≡ l.recorded
 unfolding log_after
-log_opening l k [] = refl
-log_opening l k (c ∷ cs) = log_opening (at_mark l k c) (k + 1) cs
+log_recorded l k [] = refl
+log_recorded l k (c ∷ cs) = log_recorded (at_mark l k c) (k + 1) cs
 
 fold_append : (s : CoreState) (xs ys : List Step) → fold step s (xs ++ ys) ≡ fold step (fold step s xs) ys
 fold_append s [] ys = refl
 fold_append s (x ∷ xs) ys = fold_append (step s x) xs ys
 
-state_append : (o : Opening) (h xs : List Step) → state o (h ++ xs) ≡ fold step (state o h) xs
+state_append : (r : RecordedOpening) (h xs : List Step) → state r (h ++ xs) ≡ fold step (state r h) xs
 unfolding state
-state_append o h xs = fold_append (start o) h xs
+state_append r h xs = fold_append (start r) h xs
 
 now_at_mark : (l : Log) (k : ℕ) (c : Command) → now (at_mark l k c) ≡ fold step (now l) (part_of (now l) c)
-now_at_mark l k c = state_push l.opening (l.history ++ part_of (now l) c) (Mark k) ∙ state_append l.opening l.history (part_of (now l) c)
+now_at_mark l k c = state_push l.recorded (l.history ++ part_of (now l) c) (Mark k) ∙ state_append l.recorded l.history (part_of (now l) c)
 
 log_history : (l : Log) (k : ℕ) (cs : List Command) → (log_after l k cs).history ≡ l.history ++ serial_play (now l) k cs
 unfolding log_after
@@ -101,22 +102,22 @@ log_history l k (c ∷ cs) =
 
 -- ---- the run
 
-abbrev at_start : Opening → Log
-at_start o = record { opening = o; history = [] }
+abbrev at_start : RecordedOpening → Log
+at_start r = record { recorded = r; history = [] }
 
 -- the first commands have run, and have their answers
-pub record IsRunSoFar (o : Opening) (commands : List Command) (i : ℕ) (core : Log) (answers : List Answer) : Type 0 where
-  pub log : core ≡ log_after (at_start o) 1 (take i commands)
-  pub so_far : AreAnswersFrom (at_start o) 1 (take i commands) answers
+pub record IsRunSoFar (r : RecordedOpening) (commands : List Command) (i : ℕ) (core : Log) (answers : List Answer) : Type 0 where
+  pub log : core ≡ log_after (at_start r) 1 (take i commands)
+  pub so_far : AreAnswersFrom (at_start r) 1 (take i commands) answers
 
-pub run_none : (o : Opening) (commands : List Command) (core : Log) → core ≡ record { opening = o; history = [] } → IsRunSoFar o commands 0 core []
+pub run_none : (r : RecordedOpening) (commands : List Command) (core : Log) → core ≡ record { recorded = r; history = [] } → IsRunSoFar r commands 0 core []
 unfolding log_after
-run_none o [] core e = record { log = e; so_far = tt }
-run_none o (c ∷ cs) core e = record { log = e; so_far = tt }
+run_none r [] core e = record { log = e; so_far = tt }
+run_none r (c ∷ cs) core e = record { log = e; so_far = tt }
 
-pub run_more : (o : Opening) (commands : List Command) (i k : ℕ) (core next : Log) (answers : List Answer) (c : Command) (a : Answer) → i < length commands → c ≡ get_or commands i c → k ≡ i + 1 → next ≡ at_mark core k c → IsAnswer next c a → IsRunSoFar o commands i core answers → IsRunSoFar o commands (i + 1) next (answers ++ a ∷ [])
-run_more o commands i k core next answers c a inside is number grown answer so =
-    let l = at_start o in
+pub run_more : (r : RecordedOpening) (commands : List Command) (i k : ℕ) (core next : Log) (answers : List Answer) (c : Command) (a : Answer) → i < length commands → c ≡ get_or commands i c → k ≡ i + 1 → next ≡ at_mark core k c → IsAnswer next c a → IsRunSoFar r commands i core answers → IsRunSoFar r commands (i + 1) next (answers ++ a ∷ [])
+run_more r commands i k core next answers c a inside is number grown answer so =
+    let l = at_start r in
     let many : length (take i commands) ≡ i = length-take-le i commands (omega (arith, inside)) in
     let at : k ≡ 1 + length (take i commands) = omega (arith, number, many) in
     let more : take (i + 1) commands ≡ take i commands ++ c ∷ [] = take_more commands i c inside ∙ ap (λ x. take i commands ++ x ∷ []) (sym is) in
@@ -126,13 +127,13 @@ run_more o commands i k core next answers c a inside is number grown answer so =
       so_far = subst (λ cs. AreAnswersFrom l 1 cs (answers ++ a ∷ [])) (sym more) (answers_push l 1 (take i commands) answers c a so.so_far (subst (λ x. IsAnswer x c a) log answer));
     }
 
-pub run_done : (o : Opening) (commands : List Command) (i : ℕ) (core : Log) (answers : List Answer) (ran : Ran) → length commands ≤ i → IsRunSoFar o commands i core answers → ran.core ≡ core → ran.answers ≡ answers → IsRan o commands ran
-run_done o commands i core answers ran le so same_core same_answers =
-    let l = at_start o in
+pub run_done : (r : RecordedOpening) (commands : List Command) (i : ℕ) (core : Log) (answers : List Answer) (ran : Ran) → length commands ≤ i → IsRunSoFar r commands i core answers → ran.core ≡ core → ran.answers ≡ answers → IsRan r commands ran
+run_done r commands i core answers ran le so same_core same_answers =
+    let l = at_start r in
     let all = take_all i commands le in
     let log : ran.core ≡ log_after l 1 commands = same_core ∙ so.log ∙ ap (log_after l 1) all in
     record {
-      opening = ap (λ (x : Log). x.opening) log ∙ log_opening l 1 commands;
-      history = ap (λ (x : Log). x.history) log ∙ log_history l 1 commands ∙ ap (λ s. serial_play s 1 commands) (state_nil o);
-      answers = subst (λ x. AreAnswers o commands x) (sym same_answers) (subst (λ cs. AreAnswersFrom l 1 cs answers) all so.so_far);
+      recorded = ap (λ (x : Log). x.recorded) log ∙ log_recorded l 1 commands;
+      history = ap (λ (x : Log). x.history) log ∙ log_history l 1 commands ∙ ap (λ s. serial_play s 1 commands) (state_nil r);
+      answers = subst (λ x. AreAnswers r commands x) (sym same_answers) (subst (λ cs. AreAnswersFrom l 1 cs answers) all so.so_far);
     }

@@ -1,14 +1,15 @@
 -- A script run in the serial order: its play, and the answers to its commands.
 use Rattle.std.specs.Prelude.{ℕ, zero, suc, ◌+◌, ◌++◌, ◌∷◌, [], List, Some, None, map}
 use Rattle.std.specs.List.{fold}
-use Rattle.cn_net.specs.Opening.{Opening}
+use Rattle.cn_record.specs.Recorded.{RecordedOpening}
 use Rattle.cn_core.specs.declared.answer.Answer.{Answer}
 use Rattle.cn_core.specs.declared.answer.Answer.TheVariants.{Done, Pulled}
 use Rattle.cn_core.specs.declared.event.Event.{Event}
 use Rattle.cn_core.specs.declared.event.Step.{Step}
 use Rattle.cn_core.specs.declared.event.Step.TheVariants.{Work, Mark}
 use Rattle.cn_core.specs.Log.{Log, now}
-use Rattle.cn_core.specs.Machine.{after_event, start, step}
+use Rattle.cn_core.specs.Machine.{after_event, step}
+use Rattle.cn_core.specs.Start.{start}
 use Rattle.cn_core.specs.Order.{first_event}
 use Rattle.cn_core.specs.Pulled.{IsPulled}
 use Rattle.cn_core.specs.State.{CoreState}
@@ -33,14 +34,14 @@ serial_play s k [] = []
 serial_play s k (c ∷ cs) = part_of s c ++ Mark k ∷ serial_play (fold step s (part_of s c)) (k + 1) cs
 
 -- the serial play of a script from an opening
-abbrev pub play_of : Opening → List Command → List Step
-play_of o script = serial_play (start o) 1 script
+abbrev pub play_of : RecordedOpening → List Command → List Step
+play_of r script = serial_play (start r) 1 script
 
 -- ---- the answers
 
 -- the log at the mark behind command number k
 abbrev pub at_mark : Log → ℕ → Command → Log
-at_mark l k c = record { opening = l.opening; history = l.history ++ part_of (now l) c ++ Mark k ∷ [] }
+at_mark l k c = record { recorded = l.recorded; history = l.history ++ part_of (now l) c ++ Mark k ∷ [] }
 
 -- the answer to a command, by the log at its mark
 abbrev pub IsAnswer : Log → Command → Answer → Type 0
@@ -57,5 +58,5 @@ AreAnswersFrom l k (c ∷ cs) [] = ⊥
 AreAnswersFrom l k (c ∷ cs) (a ∷ more) = IsAnswer (at_mark l k c) c a × AreAnswersFrom (at_mark l k c) (k + 1) cs more
 
 -- the answers to a script that is run from an opening
-abbrev pub AreAnswers : Opening → List Command → List Answer → Type 0
-AreAnswers o script answers = AreAnswersFrom (record { opening = o; history = [] }) 1 script answers
+abbrev pub AreAnswers : RecordedOpening → List Command → List Answer → Type 0
+AreAnswers r script answers = AreAnswersFrom (record { recorded = r; history = [] }) 1 script answers

@@ -1,7 +1,6 @@
 //! The run of a script.
 
 ghost use Rattle.std.specs.Prelude.{◌≡◌, ◌++◌, ◌≤◌, IfOk, OnOk, map};
-ghost use Rattle.cn_core.specs.Laws.{AllEmulated};
 ghost use Rattle.cn_core.specs.Log.{now};
 ghost use Rattle.cn_core.specs.declared.event.Step.TheVariants.{Work};
 ghost use Rattle.cn_serial.specs.Ran.{IsRan};
@@ -9,8 +8,8 @@ ghost use Rattle.cn_serial.specs.Serial.{IsAnswer, at_mark, first_events};
 
 use cn_base::Items;
 use cn_core::{Answer, Core, StepAnswer};
-use cn_net::Certified;
 use cn_readscript::{Command, Script};
+use cn_record::Recorded;
 use std::alloc::{AllocError, Global};
 
 /// A core after the last command of a script, and the answers to the commands, in their order.
@@ -22,7 +21,7 @@ pub struct Ran {
 
 // The first event happens, again and again, until so many have happened or the state is quiet.
 fn work(alloc: Global, core: &mut Core, count: u32) -> Result<(), AllocError>
-    ensures opening { core.new.opening ≡ core.old.opening }
+    ensures recorded { core.new.recorded ≡ core.old.recorded }
     ensures history { OnOk result (core.new.history ≡ core.old.history ++ map Work (first_events (now core.old) count)) }
 {
     for done in 0..count {
@@ -62,13 +61,12 @@ fn run_command(
     }
 }
 
-/// Runs a script in the serial order from an opening in which every device is emulated. The error is want
-/// of memory.
-pub fn run_serial(alloc: Global, certified: Certified, script: &Script) -> Result<Ran, AllocError>
-    requires { AllEmulated certified }
-    ensures { IfOk result (λ ran. IsRan certified script.now ran) }
+/// Runs a script in the serial order on the emulated devices of an opening, with speakers in place of the
+/// others. The error is want of memory.
+pub fn run_serial(alloc: Global, recorded: Recorded, script: &Script) -> Result<Ran, AllocError>
+    ensures { IfOk result (λ ran. IsRan recorded script.now ran) }
 {
-    let Ok(mut core) = Core::start(alloc, certified) else {
+    let Ok(mut core) = Core::start(alloc, recorded) else {
         return Err(AllocError);
     };
     let mut answers = Vec::with_capacity(alloc, script.items().len())?;

@@ -1,14 +1,13 @@
-ghost use Rattle.std.specs.Prelude.{◌≡◌, true, All, IfOk};
-ghost use Rattle.cn_base.specs.declared.ids.DeviceId.{DeviceId as DeviceNumber};
-ghost use Rattle.cn_core.specs.Laws.{AllEmulated};
-ghost use Rattle.cn_net.specs.Islands.{holds_device};
+ghost use Rattle.std.specs.Prelude.{All, IfOk};
 ghost use Rattle.cn_net.specs.Network.{IsDevice};
 
 use super::*;
 use cn_base::{Asn, DeviceId, Items, Name, Origin, Prefix, RouterId, Standing};
 use cn_core::{Answer, Pull};
-use cn_net::{BodyDraft, Certified, DeviceDraft, DeviceSet, Draft, Labels, LinkDraft, Net, Own};
+use cn_net::{BodyDraft, DeviceDraft, DeviceSet, Draft, LinkDraft, Net, Own};
+use cn_plan::{Selection, plan};
 use cn_readscript::read_script;
+use cn_record::{Recorded, Saved};
 use std::alloc::{AllocError, Global};
 use std::test::Fail;
 
@@ -73,33 +72,23 @@ fn all_devices(alloc: Global, net: &Net) -> Result<DeviceSet, AllocError>
     Ok(DeviceSet::make(net, devices))
 }
 
-// Ok comes only where the set holds each device.
-fn hold_each(net: &Net, set: &DeviceSet) -> Result<(), Fail>
-    ensures { IfOk result (λ done. (d : DeviceNumber) → IsDevice net.now d → holds_device set.now d ≡ true) }
-{
-    for number in 0..net.count() {
-        if !set.holds(DeviceId(number)) {
-            return Err(Fail::new("outside"));
-        }
-    }
-    Ok(())
-}
-
 // The network with each device emulated.
-fn opening(alloc: Global) -> Result<Certified, Fail>
-    ensures { IfOk result (λ certified. AllEmulated certified) }
-{
+fn recorded(alloc: Global) -> Result<Recorded, Fail> {
     let net = network(alloc)?;
-    let emulated = all_devices(alloc, &net)?;
-    hold_each(&net, &emulated)?;
-    let labels = Labels::make(Vec::new(alloc));
-    Ok(Certified::make(net, emulated, labels))
+    let emulated = Selection::Emulate(all_devices(alloc, &net)?);
+    let Ok(saved) = Saved::make(Vec::new(alloc)) else {
+        return Err(Fail::new("a row twice"));
+    };
+    match plan(alloc, net, emulated, saved) {
+        Ok(plan) => Ok(plan.recorded),
+        Err(_) => Err(Fail::new("no plan")),
+    }
 }
 
 // What a script leaves.
 fn ran(alloc: Global, text: &str) -> Result<Ran, Fail> {
     let script = read_script(alloc, text.as_bytes())?;
-    Ok(run_serial(alloc, opening(alloc)?, &script)?)
+    Ok(run_serial(alloc, recorded(alloc)?, &script)?)
 }
 
 // An answer in a word, with the devices of a mailbox that is pending.

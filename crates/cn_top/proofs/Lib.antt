@@ -2,6 +2,7 @@ pub mod Meanings
 pub mod Meant
 pub mod Names
 pub mod OneEmulation
+pub mod TextAnswers
 pub mod Outcomes
 pub mod Plannings
 pub mod Puts

@@ -3,15 +3,13 @@ use Rattle.std.proofs.Common.{◌≡◌, ℕ, suc, ◌+◌, ◌<◌, ◌≤◌, 
 use Rattle.std.specs.Prelude.{codes}
 use Rattle.std.proofs.Math.Seq.{drop-cons}
 use Rattle.std.proofs.lemmas.List.{drop_all}
-use Rattle.cn_core.specs.Laws.{AllEmulated as AllAreEmulated}
 use Rattle.cn_core.specs.declared.answer.Answer.{Answer as CommandAnswer}
 use Rattle.cn_net.specs.Network.{Network}
-use Rattle.cn_net.specs.Opening.{Opening}
 use Rattle.cn_outside.specs.Shelf.{IsLonger}
 use Rattle.cn_readscript.specs.declared.command.Command.{Command}
 use Rattle.cn_report.specs.Answers.{answer_text}
 use Rattle.cn_record.specs.Recorded.{RecordedOpening}
-use Rattle.cn_top.specs.Meant.{IsMeant, OpenedMeans, ScriptHeldMeans, ScriptMeans}
+use Rattle.cn_top.specs.Meant.{IsMeant, ScriptHeldMeans, ScriptMeans}
 use Rattle.cn_top.specs.Plan.{unbuilt_answer}
 use Rattle.cn_top.specs.Planned.{PlansHeld}
 use Rattle.cn_top.specs.Serial.{ScriptsNone, answer_texts, script_limit}
@@ -61,32 +59,22 @@ longer_script false held answer longer is =
     let r = some_text (suc script_limit) in
     (r.0, (λ t. absurd cc), too_long r.0 (omega (arith, r.1)), is)
 
-pub script_read : (o : Opening) (script : List ℕ) (tells : Bool) (held : Option (List ℕ)) (before now : List ℕ → ℕ) (bytes : List ℕ) (means : Meant) → (IsTrue tells → held ≡ Some bytes) → ScriptMeans o bytes means → ScriptHeldMeans o script tells held before now means
-script_read o script tells held before now bytes (meant.Line answer) told h = inr (bytes, told, h.0, h.1)
-script_read o script tells held before now bytes (meant.Run run) told h = (bytes, told, h)
-
--- ---- an opening and a script
-
-module _ (o : Opening) (script : List ℕ) (tells : Bool) (held : Option (List ℕ)) (before now : List ℕ → ℕ) where
-  pub opened_all : AllAreEmulated o → (means : Meant) → ScriptHeldMeans o script tells held before now means → OpenedMeans o script tells held before now means
-  opened_all all (meant.Line answer) h = inr (all, h)
-  opened_all all (meant.Run run) h = (all, h)
+pub script_read : (r : RecordedOpening) (script : List ℕ) (tells : Bool) (held : Option (List ℕ)) (before now : List ℕ → ℕ) (bytes : List ℕ) (means : Meant) → (IsTrue tells → held ≡ Some bytes) → ScriptMeans r bytes means → ScriptHeldMeans r script tells held before now means
+script_read r script tells held before now bytes (meant.Line answer) told h = inr (bytes, told, h.0, h.1)
+script_read r script tells held before now bytes (meant.Run run) told h = (bytes, told, h)
 
 -- ---- a plan and a script
 
 module _ (file script : List ℕ) (tells : Bool) (held held' : List ℕ → Option (List ℕ)) (before middle now : List ℕ → ℕ) (r : RecordedOpening) (planned : Planned) where
   pub means_opened : planned ≡ Recorded r → PlansHeld file tells (held file) before middle planned → ((n : List ℕ) → held' n ≡ held n) → ((n : List ℕ) → before n ≤ middle n)
-      → (means : Meant) → OpenedMeans r.opening script tells (held' script) middle now means → IsMeant file script tells held before now means
-  means_opened is h same later (meant.Line answer) (inl outside) =
-      let k = subst (PlansHeld file tells (held file) before middle) is h in
-      inr (k.0, r.opening, k.1, k.2, inl outside)
-  means_opened is h same later (meant.Line answer) (inr (all, inl (rose, e))) =
+      → (means : Meant) → ScriptHeldMeans r script tells (held' script) middle now means → IsMeant file script tells held before now means
+  means_opened is h same later (meant.Line answer) (inl (rose, e)) =
       let k = subst (PlansHeld file tells (held file) before middle) is h in
       let from = later script in
-      inr (k.0, r.opening, k.1, k.2, inr (all, inl (omega arith, e)))
-  means_opened is h same later (meant.Line answer) (inr (all, inr (bytes, told, none, e))) =
+      inr (k.0, r, k.1, k.2, inl (omega arith, e))
+  means_opened is h same later (meant.Line answer) (inr (bytes, told, none, e)) =
       let k = subst (PlansHeld file tells (held file) before middle) is h in
-      inr (k.0, r.opening, k.1, k.2, inr (all, inr (bytes, (λ t. sym (same script) ∙ told t), none, e)))
-  means_opened is h same later (meant.Run run) (all, (bytes, told, (commands, scripts, runs))) =
+      inr (k.0, r, k.1, k.2, inr (bytes, (λ t. sym (same script) ∙ told t), none, e))
+  means_opened is h same later (meant.Run run) (bytes, told, (commands, scripts, runs)) =
       let k = subst (PlansHeld file tells (held file) before middle) is h in
-      (k.0, bytes, r.opening, commands, k.1, k.2, all, (λ t. sym (same script) ∙ told t), scripts, runs)
+      (k.0, bytes, r, commands, k.1, k.2, (λ t. sym (same script) ∙ told t), scripts, runs)

@@ -1,12 +1,9 @@
 -- When each status comes, from what the call meant and how it ended.
-use Rattle.std.proofs.Common.{◌≡◌, ◌≢◌, ◌⊎◌, inl, inr, ℕ, ◌<◌, Bool, IsTrue, true, not, List, ◌++◌, Option, Some, refl, sym, ap, subst, ◌∙◌}
+use Rattle.std.proofs.Common.{◌≡◌, ◌≢◌, ◌⊎◌, inl, inr, ℕ, ◌<◌, Bool, IsTrue, List, ◌++◌, Option, Some, refl, sym, ap, subst, ◌∙◌}
 use Rattle.std.specs.Prelude.{codes}
 use Rattle.std.specs.List.{concat}
-use Rattle.std.proofs.lemmas.Bool.{false≢true}
-use Rattle.cn_core.specs.Laws.{AllEmulated as AllAreEmulated}
-use Rattle.cn_net.specs.Islands.{holds_device}
-use Rattle.cn_net.specs.Network.{Network, IsDevice}
 use Rattle.cn_net.specs.Opening.{Opening}
+use Rattle.cn_record.specs.Recorded.{RecordedOpening}
 use Rattle.cn_outside.specs.Shelf.{SameAtEach}
 use Rattle.cn_readscript.specs.declared.command.Command.{Command}
 use Rattle.cn_top.specs.declared.answer.Answer.{Answer}
@@ -15,137 +12,20 @@ use Rattle.cn_top.specs.declared.serial.Run.{Run}
 use Rattle.cn_top.specs.declared.status.Status.{Status}
 use Rattle.cn_top.specs.declared.status.Status.TheVariants as status
 use Rattle.cn_plan.specs.Boundary.{BoundaryFault, IsFirstFault, IsSafe, IsSafeOpening, IsUnsafe}
-use Rattle.cn_readnet.specs.Plan.{plan_of}
 use Rattle.cn_readnet.specs.declared.plan.NetText.{NetText}
-use Rattle.cn_top.specs.Emulation.{Emulation, PlanStandsFor, ReadsPlan, StandsFor, is_outside}
+use Rattle.cn_top.specs.Emulation.{Emulation, ReadsPlan, StandsFor, is_outside}
 use Rattle.cn_top.specs.Faults.{IsPlanFault}
 use Rattle.cn_top.specs.FaultTexts.{bad_net_line}
 use Rattle.cn_top.specs.Ending.{EndsRun, Outcome}
 use Rattle.cn_top.specs.Form.{Form, plan_form, serial_form, later_form, usage_form}
 use Rattle.cn_top.specs.Means.{Means}
-use Rattle.cn_top.specs.Outcome.{AsksForPlan, AsksForRun, HoldsTrace, IsNoPlan, IsUnbuilt, IsUnlessMemory, MeetsNoFault, Plans, Reads, ReadsName, RoseFor, WroteBadly}
-use Rattle.cn_top.specs.Plan.{AnswersPlan, AnswersText, unbuilt_answer, unread_answer}
+use Rattle.cn_top.specs.Outcome.{AsksForPlan, AsksForRun, HoldsTrace, IsUnbuilt, IsUnlessMemory, MeetsNoFault, Plans, Reads, ReadsName, RoseFor, WroteBadly}
+use Rattle.cn_top.specs.Plan.{AnswersText, unbuilt_answer, unread_answer}
 use Rattle.cn_top.specs.Planned.{IsRefusing, OpensText}
-use Rattle.cn_top.specs.Serial.{IsRunOf, MeansLine, MeansRun, Scripts, ScriptsNone, SomeAreOutside}
+use Rattle.cn_top.specs.Serial.{IsRunOf, MeansLine, MeansRun, Scripts, ScriptsNone}
 use Rattle.cn_top.specs.Texts.{usage_line, unbuilt_line, unread_line, refused_line, plan_text}
-use Rattle.cn_plan.proofs.Boundaries.{fault_unsafe, safe_not_unsafe, safe_of}
-use Rattle.cn_top.proofs.OneEmulation.{one_emulation, same_emulation, same_text, stands_faultless}
-
-abbrev status_of : Answer → Status
-status_of answer = answer.status
-
-abbrev text_of : Answer → List ℕ
-text_of answer = answer.text
-
-same_bytes : (held : Option (List ℕ)) (a b : List ℕ) → held ≡ Some a → held ≡ Some b → a ≡ b
-same_bytes held a b p q = cc
-
--- ---- what the answer to a text says of what the text stands for
-
-same_read : (bytes : List ℕ) (x y : NetText) → ReadsPlan bytes x → ReadsPlan bytes y → x ≡ y
-same_read bytes x y h k = same_text (plan_of bytes) x y h.1 k.1
-
-module _ (bytes : List ℕ) (answer : Answer) where
-  -- what is read is one plan
-  the_plan : (x y : NetText) → ReadsPlan bytes x → ReadsPlan bytes y → AnswersPlan x answer → AnswersPlan y answer
-  the_plan x y h k m = subst (λ (t : NetText). AnswersPlan t answer) (same_read bytes x y h k) m
-
-  -- the answer's status, by what the plan stands for
-  plan_safe : (text : NetText) (e : Emulation) → PlanStandsFor text e → IsSafe e.net (is_outside e) e.rows → AnswersPlan text answer → answer.status ≡ status.Ok
-  plan_safe text e stands safe (inl (f, stands', inl (o, opening, is))) = ap status_of is
-  plan_safe text e stands safe (inl (f, stands', inr (fault, by, is))) =
-      absurd (subst (λ (x : Emulation). IsSafe x.net (is_outside x) x.rows → ⊥) (same_emulation text f e stands'.0 stands.0) (λ a. safe_not_unsafe f.net (is_outside f) f.rows a (fault_unsafe f.net (is_outside f) f.rows fault by)) safe)
-  plan_safe text e stands safe (inr (fault, is_fault, is)) = absurd (stands_faultless text e fault stands is_fault)
-
-  plan_unsafe : (text : NetText) (e : Emulation) → PlanStandsFor text e → IsUnsafe e.net (is_outside e) e.rows → AnswersPlan text answer → answer.status ≡ status.Refused
-  plan_unsafe text e stands unsafe (inl (f, stands', inl (o, opening, is))) =
-      absurd (subst (λ (x : Emulation). IsUnsafe x.net (is_outside x) x.rows → ⊥) (same_emulation text f e stands'.0 stands.0) (λ a. safe_not_unsafe f.net (is_outside f) f.rows (safe_of f.net (is_outside f) f.rows o opening) a) unsafe)
-  plan_unsafe text e stands unsafe (inl (f, stands', inr (fault, by, is))) = ap status_of is
-  plan_unsafe text e stands unsafe (inr (fault, is_fault, is)) = absurd (stands_faultless text e fault stands is_fault)
-
-  plan_faulty : (text : NetText) (fault : PlanFault) → IsPlanFault text fault → AnswersPlan text answer → answer.status ≡ status.BadNet
-  plan_faulty text fault is_fault (inl (e, stands, h)) = absurd (stands_faultless text e fault stands is_fault)
-  plan_faulty text fault is_fault (inr (other, by, is)) = ap status_of is
-
-  pub text_safe : (e : Emulation) → StandsFor bytes e → IsSafe e.net (is_outside e) e.rows → AnswersText bytes answer → answer.status ≡ status.Ok
-  text_safe e (text, read, stands) safe (inl (other, read', m)) = plan_safe text e stands safe (the_plan other text read' read m)
-  text_safe e (text, read, stands) safe (inr h) = absurd (h.0 text read)
-
-  pub text_unsafe : (e : Emulation) → StandsFor bytes e → IsUnsafe e.net (is_outside e) e.rows → AnswersText bytes answer → answer.status ≡ status.Refused
-  text_unsafe e (text, read, stands) unsafe (inl (other, read', m)) = plan_unsafe text e stands unsafe (the_plan other text read' read m)
-  text_unsafe e (text, read, stands) unsafe (inr h) = absurd (h.0 text read)
-
-  pub text_faulty : (text : NetText) (fault : PlanFault) → ReadsPlan bytes text → IsPlanFault text fault → AnswersText bytes answer → answer.status ≡ status.BadNet
-  text_faulty text fault read is_fault (inl (other, read', m)) = plan_faulty text fault is_fault (the_plan other text read' read m)
-  text_faulty text fault read is_fault (inr h) = absurd (h.0 text read)
-
-  -- the text stands for what an answer of each status says
-  pub text_ok : AnswersText bytes answer → answer.status ≡ status.Ok → (e : Emulation) × (o : Opening) × StandsFor bytes e × IsSafeOpening e.net (is_outside e) e.rows o × (answer.text ≡ plan_text o)
-  text_ok (inl (text, read, inl (e, stands, inl (o, opening, h)))) is = (e, o, (text, read, stands), opening, ap text_of h)
-  text_ok (inl (text, read, inl (e, stands, inr (fault, by, h)))) is = let s : answer.status ≡ status.Refused = ap status_of h in absurd cc
-  text_ok (inl (text, read, inr (fault, by, h))) is = let s : answer.status ≡ status.BadNet = ap status_of h in absurd cc
-  text_ok (inr h) is = let s : answer.status ≡ status.Unbuilt = ap status_of h.1 in absurd cc
-
-  pub text_refused : AnswersText bytes answer → answer.status ≡ status.Refused
-      → (e : Emulation) × (fault : BoundaryFault) × StandsFor bytes e × IsFirstFault e.net (is_outside e) e.rows fault × (answer.text ≡ refused_line e.net fault)
-  text_refused (inl (text, read, inl (e, stands, inl (o, opening, h)))) is = let s : answer.status ≡ status.Ok = ap status_of h in absurd cc
-  text_refused (inl (text, read, inl (e, stands, inr (fault, by, h)))) is = (e, fault, (text, read, stands), by, ap text_of h)
-  text_refused (inl (text, read, inr (fault, by, h))) is = let s : answer.status ≡ status.BadNet = ap status_of h in absurd cc
-  text_refused (inr h) is = let s : answer.status ≡ status.Unbuilt = ap status_of h.1 in absurd cc
-
-  pub text_bad_net : AnswersText bytes answer → answer.status ≡ status.BadNet → (text : NetText) × (fault : PlanFault) × ReadsPlan bytes text × IsPlanFault text fault × (answer.text ≡ bad_net_line text.draft fault)
-  text_bad_net (inl (text, read, inl (e, stands, inl (o, opening, h)))) is = let s : answer.status ≡ status.Ok = ap status_of h in absurd cc
-  text_bad_net (inl (text, read, inl (e, stands, inr (fault, by, h)))) is = let s : answer.status ≡ status.Refused = ap status_of h in absurd cc
-  text_bad_net (inl (text, read, inr (fault, by, h))) is = (text, fault, read, by, ap text_of h)
-  text_bad_net (inr h) is = let s : answer.status ≡ status.Unbuilt = ap status_of h.1 in absurd cc
-
-  pub text_unbuilt : (file : List ℕ) (held : List ℕ → Option (List ℕ)) → held file ≡ Some bytes → AnswersText bytes answer → answer.status ≡ status.Unbuilt
-      → (what : List ℕ) × IsNoPlan file held what × (answer.text ≡ unbuilt_line what)
-  text_unbuilt file held holds (inl (text, read, inl (e, stands, inl (o, opening, h)))) is = let s : answer.status ≡ status.Ok = ap status_of h in absurd cc
-  text_unbuilt file held holds (inl (text, read, inl (e, stands, inr (fault, by, h)))) is = let s : answer.status ≡ status.Refused = ap status_of h in absurd cc
-  text_unbuilt file held holds (inl (text, read, inr (fault, by, h))) is = let s : answer.status ≡ status.BadNet = ap status_of h in absurd cc
-  text_unbuilt file held holds (inr h) is = (codes "plan text", (refl, (bytes, holds, h.0)), ap text_of h.1)
-
-  pub text_not_built : (file : List ℕ) (held : List ℕ → Option (List ℕ)) (what : List ℕ) → held file ≡ Some bytes → IsNoPlan file held what → AnswersText bytes answer → answer.status ≡ status.Unbuilt
-  text_not_built file held what holds (is, (others, h, none)) (inl (text, read, rest)) = absurd (none text (subst (λ (b : List ℕ). ReadsPlan b text) (same_bytes (held file) bytes others holds h) read))
-  text_not_built file held what holds (is, (others, h, none)) (inr rest) = ap status_of rest.1
-
-  -- the statuses of the answer to a text
-  pub data TextStatus : Type 0 where
-    is_ok : answer.status ≡ status.Ok → TextStatus
-    is_refused : answer.status ≡ status.Refused → TextStatus
-    is_bad_net : answer.status ≡ status.BadNet → TextStatus
-    is_unbuilt : answer.status ≡ status.Unbuilt → TextStatus
-
-  pub text_status : AnswersText bytes answer → TextStatus
-  text_status (inl (text, read, inl (e, stands, inl (o, opening, h)))) = is_ok (ap status_of h)
-  text_status (inl (text, read, inl (e, stands, inr (fault, by, h)))) = is_refused (ap status_of h)
-  text_status (inl (text, read, inr (fault, by, h))) = is_bad_net (ap status_of h)
-  text_status (inr h) = is_unbuilt (ap status_of h.1)
-
-  -- a text that opens an emulation
-  pub opens_ok : (o : Opening) → OpensText bytes o → AnswersText bytes answer → answer.status ≡ status.Ok
-  opens_ok o (e, stands, safe) m = text_safe e stands (safe_of e.net (is_outside e) e.rows o safe) m
-
-pub opens_not_unsafe : (bytes : List ℕ) (o : Opening) (e : Emulation) → OpensText bytes o → StandsFor bytes e → IsUnsafe e.net (is_outside e) e.rows → ⊥
-opens_not_unsafe bytes o e (f, stands', safe) stands unsafe =
-    subst (λ (x : Emulation). IsUnsafe x.net (is_outside x) x.rows → ⊥) (one_emulation bytes f e stands' stands) (λ a. safe_not_unsafe f.net (is_outside f) f.rows (safe_of f.net (is_outside f) f.rows o safe) a) unsafe
-
-pub opens_faultless : (bytes : List ℕ) (o : Opening) (text : NetText) (fault : PlanFault) → OpensText bytes o → ReadsPlan bytes text → IsPlanFault text fault → ⊥
-opens_faultless bytes o text fault (e, (other, read', stands), safe) read is_fault =
-    stands_faultless text e fault (subst (λ (t : NetText). PlanStandsFor t e) (same_read bytes other text read' read) stands) is_fault
-
-pub opens_some_plan : (bytes : List ℕ) (o : Opening) (file : List ℕ) (held : List ℕ → Option (List ℕ)) (what : List ℕ) → held file ≡ Some bytes → OpensText bytes o → IsNoPlan file held what → ⊥
-opens_some_plan bytes o file held what holds (f, (text, read, stands), safe) (is, (others, h, none)) = none text (subst (λ (b : List ℕ). ReadsPlan b text) (same_bytes (held file) bytes others holds h) read)
-
--- a text opens emulations of all devices, or of some
-pub opens_alike : (bytes : List ℕ) (o q : Opening) → OpensText bytes o → OpensText bytes q → AllAreEmulated o → SomeAreOutside q → ⊥
-opens_alike bytes o q (e, stands, safe) (f, stands', safe') all (d, is, out) =
-    let k = subst (λ (x : Emulation). IsSafeOpening x.net (is_outside x) x.rows q) (one_emulation bytes f e stands' stands) safe' in
-    let net : q.net ≡ o.net = k.certified.network ∙ sym safe.certified.network in
-    let alike : not (holds_device o.emulated d) ≡ not (holds_device q.emulated d) = safe.certified.emulated d ∙ sym (k.certified.emulated d) in
-    let held : holds_device o.emulated d ≡ true = all d (subst (λ (n : Network). IsDevice n d) net is) in
-    false≢true (ap not (sym held) ∙ alike ∙ ap not out)
+use Rattle.cn_plan.proofs.Boundaries.{fault_unsafe, safe_of}
+use Rattle.cn_top.proofs.TextAnswers.{is_bad_net, is_ok, is_refused, is_unbuilt, opens_faultless, opens_not_unsafe, opens_ok, opens_some_plan, same_bytes, status_of, text_bad_net, text_faulty, text_not_built, text_of, text_ok, text_refused, text_safe, text_status, text_unbuilt, text_unsafe}
 
 -- ---- the line that is meant in place of a run
 
@@ -154,16 +34,14 @@ module _ (file script : List ℕ) (st : Bool) (held : List ℕ → Option (List 
   pub data LineKind : Type 0 where
     unread : (name : List ℕ) → (name ≡ file) ⊎ (name ≡ script) → rb name < rn name → answer ≡ unread_answer name → LineKind
     of_plan : (bytes : List ℕ) → (IsTrue st → held file ≡ Some bytes) → AnswersText bytes answer → IsRefusing answer → LineKind
-    of_speakers : (plan : List ℕ) (o : Opening) → (IsTrue st → held file ≡ Some plan) → OpensText plan o → SomeAreOutside o → answer ≡ unbuilt_answer (codes "speakers") → LineKind
-    of_script : (plan bytes : List ℕ) (o : Opening) → (IsTrue st → held file ≡ Some plan) → OpensText plan o → AllAreEmulated o → (IsTrue st → held script ≡ Some bytes) → ScriptsNone bytes
+    of_script : (plan bytes : List ℕ) (r : RecordedOpening) → (IsTrue st → held file ≡ Some plan) → OpensText plan r → (IsTrue st → held script ≡ Some bytes) → ScriptsNone bytes
         → answer ≡ unbuilt_answer (codes "script text") → LineKind
 
   pub kind_of : MeansLine file script st held rb rn answer → LineKind
   kind_of (inl (inl m, refuses)) = unread file (inl refl) m.0 m.1
   kind_of (inl (inr (bytes, told, m), refuses)) = of_plan bytes told m refuses
-  kind_of (inr (plan, o, told, opens, inl (some, is))) = of_speakers plan o told opens some is
-  kind_of (inr (plan, o, told, opens, inr (all, inl m))) = unread script (inr refl) m.0 m.1
-  kind_of (inr (plan, o, told, opens, inr (all, inr (bytes, told', none, is)))) = of_script plan bytes o told opens all told' none is
+  kind_of (inr (plan, r, told, opens, inl m)) = unread script (inr refl) m.0 m.1
+  kind_of (inr (plan, r, told, opens, inr (bytes, told', none, is))) = of_script plan bytes r told opens told' none is
 
   -- the statuses of such a line
   pub data LineStatus : Type 0 where
@@ -175,8 +53,7 @@ module _ (file script : List ℕ) (st : Bool) (held : List ℕ → Option (List 
   pub line_status : LineKind → LineStatus
   line_status (unread name which rose is) = is_read_fault (ap status_of is)
   line_status (of_plan bytes told m refuses) = elim (text_status bytes answer m) [ is_ok s ↦ absurd (refuses s) | is_refused s ↦ is_refused_line s | is_bad_net s ↦ is_bad_net_line s | is_unbuilt s ↦ is_unbuilt_line s ]
-  line_status (of_speakers plan o told opens some is) = is_unbuilt_line (ap status_of is)
-  line_status (of_script plan bytes o told opens all told' none is) = is_unbuilt_line (ap status_of is)
+  line_status (of_script plan bytes r told opens told' none is) = is_unbuilt_line (ap status_of is)
 
   -- a count of failed reads rose
   pub rose_for : (trace name : List ℕ) → (name ≡ file) ⊎ (name ≡ script) → rb name < rn name → RoseFor (serial_form file script trace) rb rn
@@ -282,8 +159,7 @@ module _ (st : Bool) (held hn : List ℕ → Option (List ℕ)) (rb rn wb wn : L
       elim (kind_of file script st held rb rn answer m) [
         | unread name which rose line ↦ (name, which, rose, put_is answer.text (unread_line name) (ap text_of line) puts)
         | of_plan bytes told h refuses ↦ elim (text_status bytes answer h) [ is_ok s ↦ absurd cc | is_refused s ↦ absurd cc | is_bad_net s ↦ absurd cc | is_unbuilt s ↦ absurd cc ]
-        | of_speakers plan o told opens some line ↦ let s : answer.status ≡ status.Unbuilt = ap status_of line in absurd cc
-        | of_script plan bytes o told opens all told' none line ↦ let s : answer.status ≡ status.Unbuilt = ap status_of line in absurd cc
+        | of_script plan bytes r told opens told' none line ↦ let s : answer.status ≡ status.Unbuilt = ap status_of line in absurd cc
       ]
   read_where (later_form word) (answered answer m is puts same) e = let s : answer.status ≡ status.Unbuilt = ap status_of m in absurd cc
   read_where usage_form (answered answer m is puts same) e = let s : answer.status ≡ status.Usage = ap status_of m in absurd cc
@@ -332,34 +208,33 @@ module _ (st : Bool) (held hn : List ℕ → Option (List ℕ)) (rb rn wb wn : L
   ok_only usage_form e (answered answer m is puts same) t asks plans safe calm = absurd asks
 
   ran_where : (form : Form) → Ended form → IsTrue st → result ≡ status.Ok
-      → AsksForPlan form ⊎ ((o : Opening) × (commands : List Command) × (run : Run) × AsksForRun form held o commands × IsRunOf o commands run × HoldsTrace form hn run.trace × Puts (concat run.texts))
+      → AsksForPlan form ⊎ ((r : RecordedOpening) × (commands : List Command) × (run : Run) × AsksForRun form held r commands × IsRunOf r commands run × HoldsTrace form hn run.trace × Puts (concat run.texts))
   ran_where form (starved p) t e = absurd cc
   ran_where form (unput p lt) t e = absurd cc
   ran_where (plan_form file) (answered answer m is puts same) t e = inl tt
   ran_where (plan_form file) (ran run m is puts) t e = absurd m
   ran_where (serial_form file script trace) (answered answer m is puts same) t e =
       elim (line_status file script st held rb rn answer (kind_of file script st held rb rn answer m)) [ is_read_fault s ↦ absurd cc | is_refused_line s ↦ absurd cc | is_bad_net_line s ↦ absurd cc | is_unbuilt_line s ↦ absurd cc ]
-  ran_where (serial_form file script trace) (ran run ((plan, bytes, o, commands, told, opens, all, told', scripts, runs), traced) is puts) t e =
-      inr (o, commands, run, (plan, bytes, told t, opens, all, told' t, scripts), runs, traced t, puts)
+  ran_where (serial_form file script trace) (ran run ((plan, bytes, r, commands, told, opens, told', scripts, runs), traced) is puts) t e =
+      inr (r, commands, run, (plan, bytes, told t, opens, told' t, scripts), runs, traced t, puts)
   ran_where (later_form word) (answered answer m is puts same) t e = let s : answer.status ≡ status.Unbuilt = ap status_of m in absurd cc
   ran_where (later_form word) (ran run m is puts) t e = absurd m
   ran_where usage_form (answered answer m is puts same) t e = let s : answer.status ≡ status.Usage = ap status_of m in absurd cc
   ran_where usage_form (ran run m is puts) t e = absurd m
 
-  ran_only : (form : Form) (o : Opening) (commands : List Command) → Ended form → IsTrue st → AsksForRun form held o commands → Calm form → IsUnlessMemory result status.Ok
-  ran_only form o commands (starved p) t asks calm = inr p
-  ran_only form o commands (unput p lt) t asks calm = absurd (no_fault form calm lt)
-  ran_only form o commands (ran run m is puts) t asks calm = inl is
-  ran_only (plan_form file) o commands (answered answer m is puts same) t asks calm = absurd asks
-  ran_only (serial_form file script trace) o commands (answered answer m is puts same) t (plan, bytes, holds, opens, all, holds', scripts) calm =
+  ran_only : (form : Form) (r : RecordedOpening) (commands : List Command) → Ended form → IsTrue st → AsksForRun form held r commands → Calm form → IsUnlessMemory result status.Ok
+  ran_only form r commands (starved p) t asks calm = inr p
+  ran_only form r commands (unput p lt) t asks calm = absurd (no_fault form calm lt)
+  ran_only form r commands (ran run m is puts) t asks calm = inl is
+  ran_only (plan_form file) r commands (answered answer m is puts same) t asks calm = absurd asks
+  ran_only (serial_form file script trace) r commands (answered answer m is puts same) t (plan, bytes, holds, opens, holds', scripts) calm =
       elim (kind_of file script st held rb rn answer m) [
         | unread name which rose line ↦ absurd (calm.reads (rose_for file script st held rb rn answer trace name which rose))
-        | of_plan others told h refuses ↦ absurd (refuses (opens_ok others answer o (subst (λ (b : List ℕ). OpensText b o) (same_bytes (held file) plan others holds (told t)) opens) h))
-        | of_speakers others f told opens' some line ↦ absurd (opens_alike others o f (subst (λ (b : List ℕ). OpensText b o) (same_bytes (held file) plan others holds (told t)) opens) opens' all some)
-        | of_script others texts f told opens' all' told' none line ↦ absurd (none commands (subst (λ (b : List ℕ). Scripts b commands) (same_bytes (held script) bytes texts holds' (told' t)) scripts))
+        | of_plan others told h refuses ↦ absurd (refuses (opens_ok others answer r (subst (λ (b : List ℕ). OpensText b r) (same_bytes (held file) plan others holds (told t)) opens) h))
+        | of_script others texts f told opens' told' none line ↦ absurd (none commands (subst (λ (b : List ℕ). Scripts b commands) (same_bytes (held script) bytes texts holds' (told' t)) scripts))
       ]
-  ran_only (later_form word) o commands (answered answer m is puts same) t asks calm = absurd asks
-  ran_only usage_form o commands (answered answer m is puts same) t asks calm = absurd asks
+  ran_only (later_form word) r commands (answered answer m is puts same) t asks calm = absurd asks
+  ran_only usage_form r commands (answered answer m is puts same) t asks calm = absurd asks
 
   -- ---- 1
 
@@ -378,8 +253,7 @@ module _ (st : Bool) (held hn : List ℕ → Option (List ℕ)) (rb rn wb wn : L
         | of_plan bytes told h refuses ↦
             let found = text_refused bytes answer h (sym is ∙ e) in
             (found.0, found.1, (bytes, told t, found.2), fault_unsafe found.0.net (is_outside found.0) found.0.rows found.1 found.3, found.3, put_is answer.text (refused_line found.0.net found.1) found.4 puts)
-        | of_speakers plan o told opens some line ↦ let s : answer.status ≡ status.Unbuilt = ap status_of line in absurd cc
-        | of_script plan bytes o told opens all told' none line ↦ let s : answer.status ≡ status.Unbuilt = ap status_of line in absurd cc
+        | of_script plan bytes r told opens told' none line ↦ let s : answer.status ≡ status.Unbuilt = ap status_of line in absurd cc
       ]
   refused_where (later_form word) (answered answer m is puts same) t e = let s : answer.status ≡ status.Unbuilt = ap status_of m in absurd cc
   refused_where usage_form (answered answer m is puts same) t e = let s : answer.status ≡ status.Usage = ap status_of m in absurd cc
@@ -398,13 +272,11 @@ module _ (st : Bool) (held hn : List ℕ → Option (List ℕ)) (rb rn wb wn : L
         | of_plan bytes told h refuses ↦
             let stands' = subst (λ (b : List ℕ). StandsFor b e) (same_bytes (held file) others bytes holds (told t)) stands in
             inl (is ∙ text_unsafe bytes answer e stands' unsafe h)
-        | of_speakers plan o told opens some line ↦
-            absurd (opens_not_unsafe plan o e opens (subst (λ (b : List ℕ). StandsFor b e) (same_bytes (held file) others plan holds (told t)) stands) unsafe)
-        | of_script plan bytes o told opens all told' none line ↦
-            absurd (opens_not_unsafe plan o e opens (subst (λ (b : List ℕ). StandsFor b e) (same_bytes (held file) others plan holds (told t)) stands) unsafe)
+        | of_script plan bytes r told opens told' none line ↦
+            absurd (opens_not_unsafe plan r e opens (subst (λ (b : List ℕ). StandsFor b e) (same_bytes (held file) others plan holds (told t)) stands) unsafe)
       ]
-  refused_only (serial_form file script trace) e (ran run ((plan, bytes, o, commands, told, opens, all, told', scripts, runs), traced) is puts) t (others, holds, stands) unsafe calm =
-      absurd (opens_not_unsafe plan o e opens (subst (λ (b : List ℕ). StandsFor b e) (same_bytes (held file) others plan holds (told t)) stands) unsafe)
+  refused_only (serial_form file script trace) e (ran run ((plan, bytes, r, commands, told, opens, told', scripts, runs), traced) is puts) t (others, holds, stands) unsafe calm =
+      absurd (opens_not_unsafe plan r e opens (subst (λ (b : List ℕ). StandsFor b e) (same_bytes (held file) others plan holds (told t)) stands) unsafe)
   refused_only (later_form word) e (answered answer m is puts same) t plans unsafe calm = absurd plans
   refused_only (later_form word) e (ran run m is puts) t plans unsafe calm = absurd plans
   refused_only usage_form e (answered answer m is puts same) t plans unsafe calm = absurd plans
@@ -426,8 +298,7 @@ module _ (st : Bool) (held hn : List ℕ → Option (List ℕ)) (rb rn wb wn : L
         | of_plan bytes told h refuses ↦
             let found = text_bad_net bytes answer h (sym is ∙ e) in
             (found.0, found.1, (bytes, told t, found.2), found.3, put_is answer.text (bad_net_line found.0.draft found.1) found.4 puts)
-        | of_speakers plan o told opens some line ↦ let s : answer.status ≡ status.Unbuilt = ap status_of line in absurd cc
-        | of_script plan bytes o told opens all told' none line ↦ let s : answer.status ≡ status.Unbuilt = ap status_of line in absurd cc
+        | of_script plan bytes r told opens told' none line ↦ let s : answer.status ≡ status.Unbuilt = ap status_of line in absurd cc
       ]
   bad_net_where (later_form word) (answered answer m is puts same) t e = let s : answer.status ≡ status.Unbuilt = ap status_of m in absurd cc
   bad_net_where usage_form (answered answer m is puts same) t e = let s : answer.status ≡ status.Usage = ap status_of m in absurd cc
@@ -446,13 +317,11 @@ module _ (st : Bool) (held hn : List ℕ → Option (List ℕ)) (rb rn wb wn : L
         | of_plan bytes told h refuses ↦
             let read' = subst (λ (b : List ℕ). ReadsPlan b text) (same_bytes (held file) others bytes holds (told t)) read in
             inl (is ∙ text_faulty bytes answer text fault read' is_fault h)
-        | of_speakers plan o told opens some line ↦
-            absurd (opens_faultless plan o text fault opens (subst (λ (b : List ℕ). ReadsPlan b text) (same_bytes (held file) others plan holds (told t)) read) is_fault)
-        | of_script plan bytes o told opens all told' none line ↦
-            absurd (opens_faultless plan o text fault opens (subst (λ (b : List ℕ). ReadsPlan b text) (same_bytes (held file) others plan holds (told t)) read) is_fault)
+        | of_script plan bytes r told opens told' none line ↦
+            absurd (opens_faultless plan r text fault opens (subst (λ (b : List ℕ). ReadsPlan b text) (same_bytes (held file) others plan holds (told t)) read) is_fault)
       ]
-  bad_net_only (serial_form file script trace) text fault (ran run ((plan, bytes, o, commands, told, opens, all, told', scripts, runs), traced) is puts) t (others, holds, read) is_fault calm =
-      absurd (opens_faultless plan o text fault opens (subst (λ (b : List ℕ). ReadsPlan b text) (same_bytes (held file) others plan holds (told t)) read) is_fault)
+  bad_net_only (serial_form file script trace) text fault (ran run ((plan, bytes, r, commands, told, opens, told', scripts, runs), traced) is puts) t (others, holds, read) is_fault calm =
+      absurd (opens_faultless plan r text fault opens (subst (λ (b : List ℕ). ReadsPlan b text) (same_bytes (held file) others plan holds (told t)) read) is_fault)
   bad_net_only (later_form word) text fault (answered answer m is puts same) t reads is_fault calm = absurd reads
   bad_net_only (later_form word) text fault (ran run m is puts) t reads is_fault calm = absurd reads
   bad_net_only usage_form text fault (answered answer m is puts same) t reads is_fault calm = absurd reads
@@ -474,10 +343,8 @@ module _ (st : Bool) (held hn : List ℕ → Option (List ℕ)) (rb rn wb wn : L
         | of_plan bytes told h refuses ↦
             let found = text_unbuilt bytes answer file held (told t) h (sym is ∙ e) in
             (found.0, inl found.1, put_is answer.text (unbuilt_line found.0) found.2 puts)
-        | of_speakers plan o told opens some line ↦
-            (codes "speakers", inr (inl (refl, (plan, o, told t, opens, some))), put_is answer.text (unbuilt_line (codes "speakers")) (ap text_of line) puts)
-        | of_script plan bytes o told opens all told' none line ↦
-            (codes "script text", inr (inr (refl, (plan, bytes, o, told t, opens, all, told' t, none))), put_is answer.text (unbuilt_line (codes "script text")) (ap text_of line) puts)
+        | of_script plan bytes r told opens told' none line ↦
+            (codes "script text", inr (refl, (plan, bytes, r, told t, opens, told' t, none)), put_is answer.text (unbuilt_line (codes "script text")) (ap text_of line) puts)
       ]
   unbuilt_where (later_form word) (answered answer m is puts same) t e = (word, refl, put_is answer.text (unbuilt_line word) (ap text_of m) puts)
   unbuilt_where usage_form (answered answer m is puts same) t e = let s : answer.status ≡ status.Usage = ap status_of m in absurd cc
@@ -493,20 +360,14 @@ module _ (st : Bool) (held hn : List ℕ → Option (List ℕ)) (rb rn wb wn : L
         | unread name which rose line ↦ absurd (calm.reads (rose_for file script st held rb rn answer trace name which rose))
         | of_plan bytes told h refuses ↦ elim what_is [
           | inl p ↦ inl (is ∙ text_not_built bytes answer file held what (told t) p h)
-          | inr m ↦ elim m [
-            | inl q ↦ absurd (refuses (opens_ok bytes answer q.1.1 (subst (λ (b : List ℕ). OpensText b q.1.1) (same_bytes (held file) q.1.0 bytes q.1.2 (told t)) q.1.3) h))
-            | inr q ↦ absurd (refuses (opens_ok bytes answer q.1.2 (subst (λ (b : List ℕ). OpensText b q.1.2) (same_bytes (held file) q.1.0 bytes q.1.3 (told t)) q.1.4) h))
-          ]
+          | inr q ↦ absurd (refuses (opens_ok bytes answer q.1.2 (subst (λ (b : List ℕ). OpensText b q.1.2) (same_bytes (held file) q.1.0 bytes q.1.3 (told t)) q.1.4) h))
         ]
-        | of_speakers plan o told opens some line ↦ inl (is ∙ ap status_of line)
-        | of_script plan bytes o told opens all told' none line ↦ inl (is ∙ ap status_of line)
+        | of_script plan bytes r told opens told' none line ↦ inl (is ∙ ap status_of line)
       ]
-  unbuilt_only (serial_form file script trace) what (ran run ((plan, bytes, o, commands, told, opens, all, told', scripts, runs), traced) is puts) t (inl p) calm =
-      absurd (opens_some_plan plan o file held what (told t) opens p)
-  unbuilt_only (serial_form file script trace) what (ran run ((plan, bytes, o, commands, told, opens, all, told', scripts, runs), traced) is puts) t (inr (inl q)) calm =
-      absurd (opens_alike plan o q.1.1 opens (subst (λ (b : List ℕ). OpensText b q.1.1) (same_bytes (held file) q.1.0 plan q.1.2 (told t)) q.1.3) all q.1.4)
-  unbuilt_only (serial_form file script trace) what (ran run ((plan, bytes, o, commands, told, opens, all, told', scripts, runs), traced) is puts) t (inr (inr q)) calm =
-      absurd (q.1.7 commands (subst (λ (b : List ℕ). Scripts b commands) (same_bytes (held script) bytes q.1.1 (told' t) q.1.6) scripts))
+  unbuilt_only (serial_form file script trace) what (ran run ((plan, bytes, r, commands, told, opens, told', scripts, runs), traced) is puts) t (inl p) calm =
+      absurd (opens_some_plan plan r file held what (told t) opens p)
+  unbuilt_only (serial_form file script trace) what (ran run ((plan, bytes, r, commands, told, opens, told', scripts, runs), traced) is puts) t (inr q) calm =
+      absurd (q.1.6 commands (subst (λ (b : List ℕ). Scripts b commands) (same_bytes (held script) bytes q.1.1 (told' t) q.1.5) scripts))
   unbuilt_only (later_form word) what (answered answer m is puts same) t what_is calm = inl (is ∙ ap status_of m)
   unbuilt_only (later_form word) what (ran run m is puts) t what_is calm = absurd m
   unbuilt_only usage_form what (answered answer m is puts same) t what_is calm = absurd what_is
@@ -554,8 +415,8 @@ module _ (st : Bool) (held hn : List ℕ → Option (List ℕ)) (rb rn wb wn : L
         → (e : Emulation) × (o : Opening) × Plans form held e × IsSafe e.net (is_outside e) e.rows × IsSafeOpening e.net (is_outside e) e.rows o × Puts (plan_text o)
     pub planned : (e : Emulation) → IsTrue st → AsksForPlan form → Plans form held e → IsSafe e.net (is_outside e) e.rows → Calm form → IsUnlessMemory result status.Ok
     pub ran : IsTrue st → result ≡ status.Ok
-        → AsksForPlan form ⊎ ((o : Opening) × (commands : List Command) × (run : Run) × AsksForRun form held o commands × IsRunOf o commands run × HoldsTrace form hn run.trace × Puts (concat run.texts))
-    pub runs : (o : Opening) (commands : List Command) → IsTrue st → AsksForRun form held o commands → Calm form → IsUnlessMemory result status.Ok
+        → AsksForPlan form ⊎ ((r : RecordedOpening) × (commands : List Command) × (run : Run) × AsksForRun form held r commands × IsRunOf r commands run × HoldsTrace form hn run.trace × Puts (concat run.texts))
+    pub runs : (r : RecordedOpening) (commands : List Command) → IsTrue st → AsksForRun form held r commands → Calm form → IsUnlessMemory result status.Ok
     pub refused : IsTrue st → result ≡ status.Refused
         → (e : Emulation) × (fault : BoundaryFault) × Plans form held e × IsUnsafe e.net (is_outside e) e.rows × IsFirstFault e.net (is_outside e) e.rows fault × Puts (refused_line e.net fault)
     pub unsafe_boundary : (e : Emulation) → IsTrue st → Plans form held e → IsUnsafe e.net (is_outside e) e.rows → Calm form → IsUnlessMemory result status.Refused
@@ -577,7 +438,7 @@ module _ (st : Bool) (held hn : List ℕ → Option (List ℕ)) (rb rn wb wn : L
         ok = ok_where form e;
         planned = λ f. ok_only form f e;
         ran = ran_where form e;
-        runs = λ o commands. ran_only form o commands e;
+        runs = λ r commands. ran_only form r commands e;
         refused = refused_where form e;
         unsafe_boundary = λ f. refused_only form f e;
         bad_net = bad_net_where form e;

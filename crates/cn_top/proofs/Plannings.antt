@@ -1,5 +1,5 @@
 -- What is made of a plan, from what its parts were made of.
-use Rattle.std.proofs.Common.{◌≡◌, ◌<◌, ◌≤◌, inl, inr, ℕ, Bool, IsTrue, not, if◌then◌else◌, List, length, Option, Some, None, Ok, refl, sym, ap, subst, ◌∙◌}
+use Rattle.std.proofs.Common.{◌≡◌, ◌<◌, ◌≤◌, inl, inr, ℕ, Bool, IsTrue, List, length, Option, Some, Ok, refl, sym, ap, subst, ◌∙◌}
 use Rattle.std.specs.Prelude.{codes}
 use Rattle.std.specs.List.Sorted.{IsPermutation}
 use Rattle.cn_base.specs.declared.ids.DeviceId.{DeviceId}
@@ -83,9 +83,9 @@ module _ (text : NetText) (net : Network) (drafted : draft_of net ≡ text.draft
 
   pub plans_chosen : (planned : Planned) → PlansChosen net s saved text.draft planned → PlansPlan text planned
   unfolding emulation
-  plans_chosen (Recorded r) h =
+  plans_chosen (Recorded r) (h, recorded) =
       let set = r.opening.emulated in
-      (emulation set, (described set h.selected, h.limits), safe_alike net (outside_of set) saved rows r.opening (same_rows rows saved moved once) h.plan.safe)
+      (emulation set, (described set h.selected, h.limits), record { safe = safe_alike net (outside_of set) saved rows r.opening (same_rows rows saved moved once) h.plan.safe; recorded = recorded; rows = subst (IsPermutation rows) (sym h.plan.rows_are) moved })
   plans_chosen (Line answer) (plan.TooMany what count, (set, selected, passes), is) =
       (inr (fault.TooMany what count, (emulation set, described set selected, passes), is), bad_net_refuses answer text.draft (fault.TooMany what count) is)
   plans_chosen (Line answer) (plan.Refused kept refusal, within, is) =
@@ -104,7 +104,7 @@ module _ (text : NetText) (net : Network) (drafted : draft_of net ≡ text.draft
 module _ (bytes : List ℕ) where
   pub plans_read : (text : NetText) (planned : Planned) → length bytes ≤ plan_limit → plan_of bytes ≡ Ok text → PlansPlan text planned → PlansText bytes planned
   plans_read text (Line answer) short read (answers, refuses) = (inl (text, (short, read), answers), refuses)
-  plans_read text (Recorded r) short read (e, stands, safe) = (e, (text, (short, read), stands), safe)
+  plans_read text (Recorded r) short read (e, stands, opens) = (e, (text, (short, read), stands), opens)
 
   pub plans_none : (planned : Planned) → ReadsNone bytes → planned ≡ Line (unbuilt_answer (codes "plan text")) → PlansText bytes planned
   plans_none planned none is = subst (PlansText bytes) (sym is) (inr (none, refl), unbuilt_refuses (unbuilt_answer (codes "plan text")) (codes "plan text") refl)
@@ -129,4 +129,4 @@ means_safe file tells held before now planned r answer is h a =
     let k = subst (PlansHeld file tells (held file) before now) is h in
     let e = k.2 in
     let stands = e.1 in
-    inr (k.0, k.1, inl (stands.0, stands.1, inl (e.0, stands.2, inl (r.opening, e.2, a))))
+    inr (k.0, k.1, inl (stands.0, stands.1, inl (e.0, stands.2, inl (r.opening, e.2.safe, a))))

@@ -1,5 +1,5 @@
 -- What the text of a plan stands for: a network, its emulated devices, and what is recorded of its devices.
-use Rattle.std.specs.Prelude.{◌≡◌, ℕ, ◌≤◌, Bool, false, not, List, length, map, All, Option, Some, None, Ok, option_map, unwrap_or}
+use Rattle.std.specs.Prelude.{◌≡◌, ℕ, ◌≤◌, Bool, false, List, length, map, All, Option, Some, None, Ok, option_map, unwrap_or}
 use Rattle.std.specs.List.{list_any}
 use Rattle.std.specs.Str.{bytes_eq}
 use Rattle.cn_base.specs.Cidr.{Cidr}

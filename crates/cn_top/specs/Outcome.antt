@@ -2,12 +2,11 @@
 use Rattle.std.specs.Prelude.{◌≡◌, ◌⊎◌, ℕ, ◌<◌, codes, List, Option, Some}
 use Rattle.cn_top.specs.Emulation.{Emulation, ReadsNone, ReadsPlan, StandsFor}
 use Rattle.cn_top.specs.Form.{Form, plan_form, serial_form, later_form, usage_form}
-use Rattle.cn_core.specs.Laws.{AllEmulated as AllAreEmulated}
-use Rattle.cn_net.specs.Opening.{Opening}
+use Rattle.cn_record.specs.Recorded.{RecordedOpening}
 use Rattle.cn_readnet.specs.declared.plan.NetText.{NetText}
 use Rattle.cn_readscript.specs.declared.command.Command.{Command}
 use Rattle.cn_top.specs.Planned.{OpensText}
-use Rattle.cn_top.specs.Serial.{Scripts, ScriptsNone, SomeAreOutside}
+use Rattle.cn_top.specs.Serial.{Scripts, ScriptsNone}
 use Rattle.cn_top.specs.declared.status.Status.{Status}
 use Rattle.cn_top.specs.declared.status.Status.TheVariants as status
 
@@ -29,26 +28,23 @@ Reads usage_form held text = ⊥
 abbrev pub IsNoPlan : List ℕ → (List ℕ → Option (List ℕ)) → List ℕ → Type 0
 IsNoPlan file held what = (what ≡ codes "plan text") × ((bytes : List ℕ) × (held file ≡ Some bytes) × ReadsNone bytes)
 
--- What isn't built yet: another form of a plan; for a run also an emulation with outside devices, and another form of a
--- script; or a command.
+-- What isn't built yet: another form of a plan, and for a run also another form of a script; or a command.
 abbrev pub IsUnbuilt : Form → (List ℕ → Option (List ℕ)) → List ℕ → Type 0
 IsUnbuilt (plan_form file) held what = IsNoPlan file held what
 IsUnbuilt (serial_form file script trace) held what =
     IsNoPlan file held what
-    ⊎ ((what ≡ codes "speakers") × ((plan : List ℕ) × (o : Opening) × (held file ≡ Some plan) × OpensText plan o × SomeAreOutside o))
     ⊎ ((what ≡ codes "script text")
-    × ((plan bytes : List ℕ) × (o : Opening) × (held file ≡ Some plan) × OpensText plan o × AllAreEmulated o × (held script ≡ Some bytes) × ScriptsNone bytes))
+    × ((plan bytes : List ℕ) × (r : RecordedOpening) × (held file ≡ Some plan) × OpensText plan r × (held script ≡ Some bytes) × ScriptsNone bytes))
 IsUnbuilt (later_form word) held what = what ≡ word
 IsUnbuilt usage_form held what = ⊥
 
--- the words ask for a run, and the two files that they name stand for this opening, in which every device is emulated,
--- and this script
-abbrev pub AsksForRun : Form → (List ℕ → Option (List ℕ)) → Opening → List Command → Type 0
-AsksForRun (plan_form file) held o commands = ⊥
-AsksForRun (serial_form file script trace) held o commands =
-    (plan bytes : List ℕ) × (held file ≡ Some plan) × OpensText plan o × AllAreEmulated o × (held script ≡ Some bytes) × Scripts bytes commands
-AsksForRun (later_form word) held o commands = ⊥
-AsksForRun usage_form held o commands = ⊥
+-- the words ask for a run, and the two files that they name stand for this opening and this script
+abbrev pub AsksForRun : Form → (List ℕ → Option (List ℕ)) → RecordedOpening → List Command → Type 0
+AsksForRun (plan_form file) held r commands = ⊥
+AsksForRun (serial_form file script trace) held r commands =
+    (plan bytes : List ℕ) × (held file ≡ Some plan) × OpensText plan r × (held script ≡ Some bytes) × Scripts bytes commands
+AsksForRun (later_form word) held r commands = ⊥
+AsksForRun usage_form held r commands = ⊥
 
 -- the words ask for a plan
 abbrev pub AsksForPlan : Form → Type 0

@@ -60,7 +60,10 @@ fn chosen(
     ensures { IfOk result (PlansChosen net selection saved draft.now) }
 {
     match plan(alloc, net, selection, saved) {
-        Ok(plan) => Ok(Planned::Recorded(plan.recorded)),
+        Ok(plan) => {
+            plan.recorded.valid();
+            Ok(Planned::Recorded(plan.recorded))
+        }
         Err(PlanAnswer::TooMany { what, count }) => {
             bad_net(alloc, draft, &PlanFault::TooMany { what, count })
         }

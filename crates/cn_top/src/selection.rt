@@ -1,7 +1,6 @@
 //! The devices that a plan chooses.
 
 ghost use Rattle.std.specs.Prelude.{◌≡◌, ◌∷◌, [], false, IfOk, MatchOption, All};
-ghost use Rattle.cn_core.specs.Laws.{AllEmulated as AllAreEmulated};
 ghost use Rattle.cn_net.specs.Drafted.{draft_of};
 ghost use Rattle.cn_net.specs.Islands.{IsAscending, holds_device};
 ghost use Rattle.cn_net.specs.Network.{IsDevice};
@@ -52,19 +51,6 @@ pub fn selection_of(
             Ok(Selection::Emulate(devices_of(alloc, net, names.items())?))
         }
     }
-}
-
-/// Some device that isn't emulated. None comes exactly where all are.
-pub fn outside_device(certified: &Certified) -> Option<DeviceId>
-    ensures { MatchOption result (AllAreEmulated certified.now) (λ d. IsDevice certified.now.net d × (holds_device certified.now.emulated d ≡ false)) }
-{
-    for number in 0..certified.net().count() {
-        let d = DeviceId(number);
-        if !certified.emulated().holds(d) {
-            return Some(d);
-        }
-    }
-    None
 }
 
 /// The labels of the islands, ascending: each is the number of one of the island's devices.

@@ -1,18 +1,16 @@
 //! What `serial` answers.
 
 ghost use Rattle.std.specs.Prelude.{◌≡◌, ◌≤◌, IfOk, length};
-ghost use Rattle.cn_core.specs.Laws.{AllEmulated as AllAreEmulated};
 ghost use Rattle.cn_outside.specs.Shelf.{RisesOnlyAt, SameAtEach};
 ghost use Rattle.cn_top.specs.Ending.{RisesOnlyAtTwo};
-ghost use Rattle.cn_top.specs.Meant.{IsMeant, OpenedMeans, ScriptHeldMeans, ScriptMeans};
+ghost use Rattle.cn_top.specs.Meant.{IsMeant, ScriptHeldMeans, ScriptMeans};
 ghost use Rattle.cn_top.specs.Serial.{IsRunOf, answer_texts, script_limit};
 
 use crate::answer::Answer;
 use crate::plan::{Planned, plan_held};
-use crate::selection::outside_device;
 use cn_base::Items;
 use cn_core::Answer as CommandAnswer;
-use cn_net::{Certified, Net};
+use cn_net::Net;
 use cn_outside::{ReadAnswer, Shelf};
 use cn_readscript::{Command, Script, read_script};
 use cn_record::Recorded;
@@ -65,11 +63,10 @@ fn answer_texts(
 }
 
 // A script is run.
-fn run_of(alloc: Global, certified: Certified, script: &Script) -> Result<Run, AllocError>
-    requires { AllAreEmulated certified }
-    ensures { IfOk result (IsRunOf certified script.now) }
+fn run_of(alloc: Global, recorded: Recorded, script: &Script) -> Result<Run, AllocError>
+    ensures { IfOk result (IsRunOf recorded script.now) }
 {
-    let ran = run_serial(alloc, certified, script)?;
+    let ran = run_serial(alloc, recorded, script)?;
     let net = ran.core.net();
     let trace = write_trace(alloc, net, ran.core.history())?;
     let texts = answer_texts(alloc, net, script.items(), ran.answers.items())?;
@@ -80,13 +77,12 @@ fn run_of(alloc: Global, certified: Certified, script: &Script) -> Result<Run, A
 }
 
 // What is meant by the text of a script, which is short enough.
-fn script_text(alloc: Global, certified: Certified, bytes: &[u8]) -> Result<Meant, AllocError>
-    requires emulated { AllAreEmulated certified }
+fn script_text(alloc: Global, recorded: Recorded, bytes: &[u8]) -> Result<Meant, AllocError>
     requires short { length bytes.now ≤ script_limit }
-    ensures { IfOk result (ScriptMeans certified bytes.now) }
+    ensures { IfOk result (ScriptMeans recorded bytes.now) }
 {
     match read_script(alloc, bytes) {
-        Ok(script) => Ok(Meant::Run(run_of(alloc, certified, &script)?)),
+        Ok(script) => Ok(Meant::Run(run_of(alloc, recorded, &script)?)),
         Err(TextAnswer::Memory) => Err(AllocError),
         Err(_) => Ok(Meant::Line(Answer::unbuilt(alloc, "script text")?)),
     }
@@ -95,43 +91,22 @@ fn script_text(alloc: Global, certified: Certified, bytes: &[u8]) -> Result<Mean
 // What is meant by the script that a name holds.
 fn script_held<S: Shelf>(
     alloc: Global,
-    certified: Certified,
+    recorded: Recorded,
     script: &str,
     shelf: &mut S,
 ) -> Result<Meant, AllocError>
-    requires { AllAreEmulated certified }
-    ensures means { IfOk result (ScriptHeldMeans certified script.now S.tells (S.held shelf.old script.now) (S.read_faults shelf.old) (S.read_faults shelf.new)) }
+    ensures means { IfOk result (ScriptHeldMeans recorded script.now S.tells (S.held shelf.old script.now) (S.read_faults shelf.old) (S.read_faults shelf.new)) }
     ensures held { SameAtEach (S.held shelf.old) (S.held shelf.new) }
     ensures reads { RisesOnlyAt script.now (S.read_faults shelf.old) (S.read_faults shelf.new) }
     ensures writes { SameAtEach (S.write_faults shelf.old) (S.write_faults shelf.new) }
 {
     match shelf.read(alloc, script, SCRIPT_LIMIT) {
-        Ok(bytes) => script_text(alloc, certified, &bytes),
+        Ok(bytes) => script_text(alloc, recorded, &bytes),
         Err(ReadAnswer::TooLong { limit: _ }) => {
             Ok(Meant::Line(Answer::unbuilt(alloc, "script text")?))
         }
         Err(ReadAnswer::Failed) => Ok(Meant::Line(Answer::unread(alloc, script)?)),
         Err(ReadAnswer::Memory) => Err(AllocError),
-    }
-}
-
-// What is meant by an opening and the script that a name holds. The script is read only where every device is
-// emulated.
-fn opened<S: Shelf>(
-    alloc: Global,
-    recorded: Recorded,
-    script: &str,
-    shelf: &mut S,
-) -> Result<Meant, AllocError>
-    ensures means { IfOk result (OpenedMeans recorded.opening script.now S.tells (S.held shelf.old script.now) (S.read_faults shelf.old) (S.read_faults shelf.new)) }
-    ensures held { SameAtEach (S.held shelf.old) (S.held shelf.new) }
-    ensures reads { RisesOnlyAt script.now (S.read_faults shelf.old) (S.read_faults shelf.new) }
-    ensures writes { SameAtEach (S.write_faults shelf.old) (S.write_faults shelf.new) }
-{
-    let (certified, _) = recorded.parts();
-    match outside_device(&certified) {
-        Some(_) => Ok(Meant::Line(Answer::unbuilt(alloc, "speakers")?)),
-        None => script_held(alloc, certified, script, shelf),
     }
 }
 
@@ -150,6 +125,6 @@ pub fn serial_means<S: Shelf>(
 {
     match plan_held(alloc, file, shelf)? {
         Planned::Line(answer) => Ok(Meant::Line(answer)),
-        Planned::Recorded(recorded) => opened(alloc, recorded, script, shelf),
+        Planned::Recorded(recorded) => script_held(alloc, recorded, script, shelf),
     }
 }

@@ -205,7 +205,7 @@ origin = \"igp\"
 const ONE_OUTSIDE: &str =
     "certified emulated 4 islands 1\nemulate t1\nemulate l1\nemulate l2\nemulate s1\nisland t2: t2\n";
 
-// A plan with an outside device: `plan` shows it, and no run has speakers yet.
+// A plan with an outside device: `plan` shows its island.
 #[test]
 fn plan_with_a_record(rt: HostRuntime) -> Result<(), Fail> {
     let alloc = rt.alloc();
@@ -273,10 +273,8 @@ fn failing_calls(rt: HostRuntime) -> Result<(), Fail> {
     Ok(())
 }
 
-// A rack and a leaf, all emulated.
-const TWO: &str = "version = 1
-emulate = [\"t1\", \"l1\"]
-[[device]]
+// A rack and a leaf.
+const TWO: &str = "[[device]]
 name = \"t1\"
 layer = 1
 asn = 65101
@@ -319,30 +317,98 @@ mark 1
 mark 2
 ";
 
-// A shelf with the plan of the rack and the leaf, and this script.
-fn shelf_with(alloc: Global, script: &str) -> Result<MemoryShelf, Fail> {
+// The leaf is emulated, and what is recorded of the rack is its own route.
+const SPEAKER: &str = "version = 1
+emulate = [\"l1\"]
+[[record]]
+device = \"t1\"
+prefix = \"10.1.1.0/24\"
+path = \"-\"
+origin = \"igp\"
+";
+
+const STEP_BY_STEP: &str = "version = 1
+command = [
+  { kind = \"pull\" },
+  { kind = \"work\", count = 1 },
+  { kind = \"pull\" },
+  { kind = \"work\", count = 100 },
+  { kind = \"pull\" },
+]
+";
+
+const BESIDE_THE_SPEAKER: &str = "1 pull again device t1
+2 work done
+3 pull again mailbox t1 l1
+4 work done
+5 pull quiet
+table l1
+10.1.1.0/24 from t1 path 65101 origin igp
+";
+
+const TRACE_BESIDE_THE_SPEAKER: &str = "trace 1
+mark 1
+send t1 l1
+mark 2
+mark 3
+receive t1 l1
+decide l1 10.1.1.0/24
+mark 4
+mark 5
+";
+
+const EMULATED_BOTH: &str = "version = 1
+emulate = [\"t1\", \"l1\"]
+";
+
+// A shelf with a plan of the rack and the leaf, which begins like this, and a script.
+fn shelf_with(alloc: Global, front: &str, script: &str) -> Result<MemoryShelf, Fail> {
+    let plan = format!(in alloc; "{front}{TWO}")?;
     let mut shelf = MemoryShelf::new(alloc);
-    shelf.hold(alloc, "q.toml", TWO.as_bytes())?;
+    shelf.hold(alloc, "q.toml", plan.as_bytes())?;
     shelf.hold(alloc, "s.toml", script.as_bytes())?;
     Ok(shelf)
 }
 
-// A run until quiet: its answers, and its trace.
-#[test]
-fn run_until_quiet(rt: HostRuntime) -> Result<(), Fail> {
-    let alloc = rt.alloc();
+// What the run of a script answers and what trace it leaves, where the plan begins like this.
+fn runs(
+    rt: &impl Abort,
+    alloc: Global,
+    front: &str,
+    script: &str,
+    texts: &str,
+    trace: &str,
+) -> Result<(), Fail> {
     let words = words(alloc, &["serial", "q.toml", "s.toml", "t.txt"])?;
-    let mut shelf = shelf_with(alloc, UNTIL_QUIET)?;
+    let mut shelf = shelf_with(alloc, front, script)?;
     let mut out = MemoryOut::new(alloc);
     let status = command(alloc, words.as_slice(), &mut shelf, &mut out);
     assert_eq!(rt; status, Status::Ok);
-    assert_eq!(rt; out.taken(), TABLES.as_bytes());
+    assert_eq!(rt; out.taken(), texts.as_bytes());
     assert!(rt;
         shelf
             .read(alloc, "t.txt", 1000)
-            .is_ok_and(|trace| trace.as_slice() == TRACE.as_bytes())
+            .is_ok_and(|left| left.as_slice() == trace.as_bytes())
     );
     Ok(())
+}
+
+#[test]
+fn run_until_quiet(rt: HostRuntime) -> Result<(), Fail> {
+    runs(&rt, rt.alloc(), EMULATED_BOTH, UNTIL_QUIET, TABLES, TRACE)
+}
+
+// The speaker owes its route at first, and then the leaf has mail from it.
+#[test]
+fn run_beside_a_speaker(rt: HostRuntime) -> Result<(), Fail> {
+    runs(
+        &rt,
+        rt.alloc(),
+        SPEAKER,
+        STEP_BY_STEP,
+        BESIDE_THE_SPEAKER,
+        TRACE_BESIDE_THE_SPEAKER,
+    )
 }
 
 // A script in another form: one line, and no trace.
@@ -350,7 +416,7 @@ fn run_until_quiet(rt: HostRuntime) -> Result<(), Fail> {
 fn script_in_another_form(rt: HostRuntime) -> Result<(), Fail> {
     let alloc = rt.alloc();
     let words = words(alloc, &["serial", "q.toml", "s.toml", "t.txt"])?;
-    let mut shelf = shelf_with(alloc, "version = 2\n")?;
+    let mut shelf = shelf_with(alloc, EMULATED_BOTH, "version = 2\n")?;
     let mut out = MemoryOut::new(alloc);
     let status = command(alloc, words.as_slice(), &mut shelf, &mut out);
     assert_eq!(rt; status, Status::Unbuilt);
@@ -365,7 +431,7 @@ fn script_in_another_form(rt: HostRuntime) -> Result<(), Fail> {
 fn failing_calls_of_a_run(rt: HostRuntime) -> Result<(), Fail> {
     let alloc = rt.alloc();
     let words = words(alloc, &["serial", "q.toml", "s.toml", "t.txt"])?;
-    let mut shelf = shelf_with(alloc, UNTIL_QUIET)?;
+    let mut shelf = shelf_with(alloc, EMULATED_BOTH, UNTIL_QUIET)?;
     shelf.trip(vec![in alloc; Trip { call: 2, taken: 0 }, Trip { call: 5, taken: 0 }]?);
     let mut out = MemoryOut::new(alloc);
     let status = command(alloc, words.as_slice(), &mut shelf, &mut out);

@@ -4,6 +4,7 @@ ghost use Rattle.std.specs.Prelude.{◌≡◌, ◌≢◌, ◌≤◌, ◌⊎◌, 
 ghost use Rattle.std.specs.List.{concat};
 ghost use Rattle.cn_outside.specs.Shelf.{RisesOnlyAt, SameAtEach, SameBut};
 ghost use Rattle.cn_net.specs.Opening.{Opening};
+ghost use Rattle.cn_record.specs.Recorded.{RecordedOpening};
 ghost use Rattle.cn_readscript.specs.declared.command.Command.{Command};
 ghost use Rattle.cn_top.specs.declared.serial.Run.{Run as RunValue};
 ghost use Rattle.cn_plan.specs.Boundary.{BoundaryFault, IsFirstFault, IsSafe, IsSafeOpening, IsUnsafe};
@@ -117,13 +118,16 @@ fn run<S: Shelf, O: Out>(alloc: Global, words: &[String], shelf: &mut S, out: &m
 /// Does what the words ask for, and puts the answer. The words are the arguments after the program's
 /// name.
 ///
-/// `plan FILE` reads a plan, checks the certificate of its boundary, and the records of the devices behind
-/// it against their one stable state, and puts the plan or what is first wrong, by one put.
+/// `plan FILE` reads a plan: a network, the devices to emulate or those from which they grow (`must`), and
+/// records of the others. It checks the certificate of the boundary between them, and the records against the
+/// one stable state of the others alone, and puts the plan or what is first wrong, by one put: what makes it
+/// no emulation (status 7), or its boundary unsafe (status 1).
 ///
-/// `serial FILE SCRIPT TRACE` reads a plan and a script, runs the script in the serial order on an
-/// emulation of all devices of the plan, writes the trace of what happened under TRACE, and then puts the
-/// answer to each command, one put for each. A `pull` that is answered quiet shows the routes (RFC 4271,
-/// section 3.2) that every device holds in the one stable state of the network; a `pull` that is answered
+/// `serial FILE SCRIPT TRACE` reads such a plan and a script, and runs the script in the serial order on an
+/// emulation of the plan's emulated devices, with a static speaker in place of each other device. It writes
+/// the trace of what happened under TRACE, and then puts the answer to each command, one put for each. A
+/// `pull` that is answered quiet shows the routes (RFC 4271, section 3.2) that every emulated device holds in
+/// the one stable state of the whole network, in which no device is a speaker; a `pull` that is answered
 /// again names what is first pending.
 /// Where the plan or the script can't be run, one line is put, and no file is touched.
 ///
@@ -166,13 +170,15 @@ pub fn command<S: Shelf, O: Out>(
         → MeetsNoFault (form_of (map string_bytes words.now)) (S.read_faults shelf.old) (S.read_faults shelf.new) (S.write_faults shelf.old) (S.write_faults shelf.new) (O.faults out.old) (O.faults out.new)
         → IsUnlessMemory result Status.Ok }
 
-    // 0 of a run comes exactly where the files stand for one: an emulation of all devices and a script. The trace
-    // is that of the serial play, and the answers are those to the commands.
+    // 0 of a run comes exactly where the files stand for one: an emulation behind a safe boundary, and a script. The
+    // trace is that of the serial play, and the answers are those to the commands: a pull shows the tables of the
+    // emulated devices in the one stable state of the whole network exactly where the state is quiet, and else names
+    // what is first pending (`IsPulled` of `cn_core`).
     ensures ran { IsTrue S.tells → result ≡ Status.Ok
-        → AsksForPlan (form_of (map string_bytes words.now)) ⊎ ((o : Opening) × (commands : List Command) × (run : RunValue)
-        × AsksForRun (form_of (map string_bytes words.now)) (S.held shelf.old) o commands × IsRunOf o commands run
+        → AsksForPlan (form_of (map string_bytes words.now)) ⊎ ((r : RecordedOpening) × (commands : List Command) × (run : RunValue)
+        × AsksForRun (form_of (map string_bytes words.now)) (S.held shelf.old) r commands × IsRunOf r commands run
         × HoldsTrace (form_of (map string_bytes words.now)) (S.held shelf.new) run.trace × (IsTrue O.tells → O.taken out.new ≡ O.taken out.old ++ concat run.texts)) }
-    ensures runs { (o : Opening) (commands : List Command) → IsTrue S.tells → AsksForRun (form_of (map string_bytes words.now)) (S.held shelf.old) o commands
+    ensures runs { (r : RecordedOpening) (commands : List Command) → IsTrue S.tells → AsksForRun (form_of (map string_bytes words.now)) (S.held shelf.old) r commands
         → MeetsNoFault (form_of (map string_bytes words.now)) (S.read_faults shelf.old) (S.read_faults shelf.new) (S.write_faults shelf.old) (S.write_faults shelf.new) (O.faults out.old) (O.faults out.new)
         → IsUnlessMemory result Status.Ok }
 
@@ -194,7 +200,7 @@ pub fn command<S: Shelf, O: Out>(
         → MeetsNoFault (form_of (map string_bytes words.now)) (S.read_faults shelf.old) (S.read_faults shelf.new) (S.write_faults shelf.old) (S.write_faults shelf.new) (O.faults out.old) (O.faults out.new)
         → IsUnlessMemory result Status.BadNet }
 
-    // 9 comes exactly where a command, a form of plans or scripts or a run with outside devices isn't built yet.
+    // 9 comes exactly where a command, or a form of plans or scripts, isn't built yet.
     ensures unbuilt { IsTrue S.tells → result ≡ Status.Unbuilt → (what : List ℕ) × IsUnbuilt (form_of (map string_bytes words.now)) (S.held shelf.old) what
         × (IsTrue O.tells → O.taken out.new ≡ O.taken out.old ++ unbuilt_line what) }
     ensures not_built { (what : List ℕ) → IsTrue S.tells → IsUnbuilt (form_of (map string_bytes words.now)) (S.held shelf.old) what

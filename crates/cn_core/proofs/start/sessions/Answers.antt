@@ -2,7 +2,7 @@ use Rattle.std.proofs.Common.{◌≡◌, ◌-◌, ◌++◌, length, map, sym, ap
 use Rattle.std.specs.List.{filter, flat_map}
 use Rattle.cn_net.specs.Islands.{holds_device}
 use Rattle.cn_net.specs.Network.{peers_of}
-use Rattle.cn_core.specs.Machine.{first_sessions, receivers}
+use Rattle.cn_core.specs.Start.{first_sessions, receivers}
 use Rattle.cn_core.specs.State.{empty_session}
 use Rattle.cn_core.proofs.Numbers.{all_ids, ids, ids_end, joined_next}
 use Rattle.cn_core.proofs.start.sessions.Goals as goal

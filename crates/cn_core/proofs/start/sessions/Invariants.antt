@@ -1,6 +1,6 @@
 use Rattle.std.proofs.Common.{◌≡◌, ◌-◌, ◌++◌, map}
 use Rattle.std.specs.List.{flat_map}
-use Rattle.cn_core.specs.Machine.{first_sessions, receivers}
+use Rattle.cn_core.specs.Start.{first_sessions, receivers}
 use Rattle.cn_core.specs.State.{empty_session}
 use Rattle.cn_core.proofs.Numbers.{ids}
 use Rattle.cn_core.proofs.start.sessions.Given as goal

@@ -1,4 +1,4 @@
-use Rattle.std.proofs.Common.{◌≡◌, List, ℕ, None, Some, subst}
+use Rattle.std.proofs.Common.{◌≡◌, List, None, Some, subst}
 use Rattle.std.specs.List.{flat_map}
 use Rattle.std.proofs.lemmas.Result.{IfOk-weaker}
 use Rattle.cn_net.specs.Drafted.{draft_of}

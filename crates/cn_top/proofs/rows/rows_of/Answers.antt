@@ -1,4 +1,4 @@
-use Rattle.std.proofs.Common.{List, not, map, arith}
+use Rattle.std.proofs.Common.{not}
 use Rattle.std.specs.List.{flat_map}
 use Rattle.cn_net.specs.Drafted.{draft_of}
 use Rattle.cn_top.specs.Faults.{first_unknown, is_written, row_names}

@@ -1,4 +1,4 @@
-use Rattle.std.proofs.Common.{◌≡◌, ℕ, length, not, refl, subst, sym, ◌∙◌, arith}
+use Rattle.std.proofs.Common.{◌≡◌, ℕ, length, not, refl, subst, arith}
 use Rattle.cn_net.specs.Drafted.{draft_of}
 use Rattle.cn_top.specs.Faults.{first_unknown, is_written}
 use Rattle.cn_top.proofs.Names.{first_next, handed_on, none_next}

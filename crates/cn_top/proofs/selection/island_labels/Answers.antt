@@ -1,11 +1,11 @@
-use Rattle.std.proofs.Common.{◌≡◌, ◌<◌, ℕ, length, Bool, Some, arith, refl, sym, ap, ◌∙◌}
+use Rattle.std.proofs.Common.{◌≡◌, length, Bool, Some, arith, refl, sym, ap, ◌∙◌}
 use Rattle.std.specs.List.{filter}
 use Rattle.std.specs.Option.{option_eq}
 use Rattle.cn_base.specs.declared.ids.DeviceId.{DeviceId}
 use Rattle.cn_net.specs.Islands.{label_of}
 use Rattle.cn_net.specs.Network.{Network, same_device}
 use Rattle.cn_top.specs.Texts.{is_of, island_labels}
-use Rattle.cn_top.proofs.Selections.{all_ids, ids, kept_more, kept_same}
+use Rattle.cn_top.proofs.Selections.{all_ids, kept_more, kept_same}
 use Rattle.cn_top.proofs.selection.island_labels.Goals.{then-eq+in_ok-push, else-eq}
 use Rattle.cn_top.proofs.selection.island_labels.Goals as goal
 

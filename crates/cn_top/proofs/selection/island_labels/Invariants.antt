@@ -1,5 +1,5 @@
-use Rattle.std.proofs.Common.{◌≡◌, map}
-use Rattle.std.specs.List.{filter, range_with_len}
+use Rattle.std.proofs.Common.{◌≡◌}
+use Rattle.std.specs.List.{filter}
 use Rattle.cn_top.specs.Texts.{is_of}
 use Rattle.cn_top.proofs.Selections.{ids}
 use Rattle.cn_top.proofs.selection.island_labels.Given as goal

@@ -7,7 +7,7 @@ use Rattle.cn_top.proofs.serial.script_held.Goals as goal
 pub returns-in-Ok-clause-means : goal.returns-in-Ok-clause-means
 returns-in-Ok-clause-means g c =
     IfOk-weaker c.script_text.result _ _
-    (λ means h. script_read c.args.certified c.args.script.now g.S.Shelf.tells (g.S.Shelf.held c.args.shelf.now c.args.script.now) (g.S.Shelf.read_faults c.args.shelf.now) (g.S.Shelf.read_faults c.read.new.self)
+    (λ means h. script_read c.args.recorded c.args.script.now g.S.Shelf.tells (g.S.Shelf.held c.args.shelf.now c.args.script.now) (g.S.Shelf.read_faults c.args.shelf.now) (g.S.Shelf.read_faults c.read.new.self)
     c.deref.result.now means (λ t. c.in-Ok.ensures.content t ∙ ap Some (sym c.deref.ensures.value)) h)
     c.script_text.ensures
 

@@ -6,7 +6,7 @@ use Rattle.cn_core.proofs.Logged.{whole_at}
 use Rattle.cn_core.proofs.emulator.Core.standing.Goals as goal
 
 pub standing-requires : goal.standing-requires
-standing-requires c = record { whole = whole_at c.self.inside.opening.value c.self.inside.history.items c.self.inside.engine c.self.invariant.0 }
+standing-requires c = record { whole = whole_at c.self.inside.recorded.value c.self.inside.history.items c.self.inside.engine c.self.invariant.0 }
 
 pub returns : goal.returns
-returns c = c.standing.ensures ∙ ap standing c.self.invariant.0.tables ∙ ap (λ (l : Log). standing (state l.opening l.history)) c.self.view_is
+returns c = c.standing.ensures ∙ ap standing c.self.invariant.0.tables ∙ ap (λ (l : Log). standing (state l.recorded l.history)) c.self.view_is

@@ -1,5 +1,5 @@
 use Rattle.std.proofs.Common.{sym, ap, ◌∙◌, subst}
-use Rattle.cn_net.specs.Opening.{Opening}
+use Rattle.cn_record.specs.Recorded.{RecordedOpening}
 use Rattle.cn_core.specs.Log.{IsState}
 use Rattle.cn_core.proofs.Logged.{opened}
 use Rattle.cn_core.proofs.emulator.Core.start.Goals as goal
@@ -7,6 +7,6 @@ use Rattle.cn_core.proofs.emulator.Core.start.Goals as goal
 pub invariant_of-result : goal.invariant_of-result
 invariant_of-result c =
     let same = c.of-opening.ensures in (
-      subst (λ (o : Opening). IsState o c.new.result.items c.in-Ok.engine) (sym same) (opened c.args.certified c.new.result.items c.in-Ok.engine c.valid.ensures c.requires c.new.ensures.items c.in-Ok.ensures.engine),
-      c.in-Ok.ensures.emulated ∙ ap (λ (o : Opening). o.emulated) (sym same),
+      subst (λ (r : RecordedOpening). IsState r c.new.result.items c.in-Ok.engine) (sym same) (opened c.args.recorded c.new.result.items c.in-Ok.engine c.valid.ensures c.new.ensures.items c.in-Ok.ensures.engine),
+      c.in-Ok.ensures.emulated ∙ ap (λ (r : RecordedOpening). r.opening.emulated) (sym same),
     )

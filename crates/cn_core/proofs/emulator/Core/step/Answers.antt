@@ -4,14 +4,14 @@ use Rattle.cn_core.proofs.Logged.{from_no_err, whole_at, worked}
 use Rattle.cn_core.proofs.emulator.Core.step.Goals as goal
 
 pub can-requires : goal.can-requires
-can-requires c = record { whole = whole_at c.self.inside.opening.value c.self.inside.history.items c.self.inside.engine c.self.invariant.0 }
+can-requires c = record { whole = whole_at c.self.inside.recorded.value c.self.inside.history.items c.self.inside.engine c.self.invariant.0 }
 
 pub apply-requires-clause-whole : goal.apply-requires-clause-whole
-apply-requires-clause-whole c = whole_at c.self.inside.opening.value c.self.inside.history.items c.self.inside.engine c.self.invariant.0
+apply-requires-clause-whole c = whole_at c.self.inside.recorded.value c.self.inside.history.items c.self.inside.engine c.self.invariant.0
 
 pub invariant_of-self-2 : goal.invariant_of-self-2
 invariant_of-self-2 c = (
-  worked c.self.inside.opening.value c.self.inside.history.items c.push_reserved.new.self.items c.self.inside.engine c.apply.new.self c.args.event c.self.invariant.0
+  worked c.self.inside.recorded.value c.self.inside.history.items c.push_reserved.new.self.items c.self.inside.engine c.apply.new.self c.args.event c.self.invariant.0
       (sym c.can.ensures ∙ c.if-not-can.false)
       (from_no_err c.apply.result (sym c.is_err-2.ensures.value ∙ c.if-is_err-2.false) c.apply.ensures.ok)
       (c.push_reserved.ensures.items ∙ ap (λ l. l ++ Work c.args.event ∷ []) c.reserve.ensures.items),

@@ -1,0 +1,69 @@
+-- The start of the core: nothing was sent, the own prefixes of each emulated device are dirty, and each speaker holds what it says.
+use Rattle.std.specs.Prelude.{List, [], Option, Some, None, option_map, map, if◌then◌else◌, unwrap_or}
+use Rattle.std.specs.List.{filter, flat_map, fold}
+use Rattle.std.specs.FinMap.{FinMap}
+use Rattle.std.specs.FinMap as fin
+use Rattle.cn_base.specs.Cidr.{Cidr}
+use Rattle.cn_base.specs.Table.{prefix_cmp}
+use Rattle.cn_base.specs.declared.ids.DeviceId.{DeviceId}
+use Rattle.cn_base.specs.declared.route.Choice.{Choice}
+use Rattle.cn_rib.specs.PrefixSet as set
+use Rattle.cn_net.specs.Islands.{holds_device}
+use Rattle.cn_net.specs.Network.{Network, device_ids, device_of, peers_of, same_device}
+use Rattle.cn_net.specs.Opening.{Opening}
+use Rattle.cn_record.specs.Recorded.{RecordedOpening}
+use Rattle.cn_record.specs.Said.{said_by}
+use Rattle.cn_record.specs.declared.saved.Row.{Row}
+use Rattle.cn_core.specs.declared.session.Rib.{Rib}
+use Rattle.cn_core.specs.declared.session.Session.{Session}
+use Rattle.cn_core.specs.State.{CoreState, empty_session}
+
+-- ---- sessions
+
+-- the emulated devices to which a is linked, in ascending order
+abbrev pub receivers : Opening → DeviceId → List DeviceId
+receivers o a = filter (holds_device o.emulated) (peers_of o.net a)
+
+-- a session for each direction of a link whose receiver is emulated, by (from, to)
+unfoldable pub first_sessions : Opening → List Session
+first_sessions o = flat_map (λ a. map (empty_session a) (receivers o a)) (device_ids o.net)
+
+-- ---- what an emulated device has
+
+abbrev pub own_prefixes : Network → DeviceId → List Cidr
+own_prefixes net d = unwrap_or (option_map (λ x. map (λ o. o.prefix) x.body.own) (device_of net d)) []
+
+-- nothing is held, and the own prefixes are dirty
+abbrev pub emulated_rib : Opening → DeviceId → Rib
+emulated_rib o d = record { best = fin.empty; dirty = set.insert_all set.empty (own_prefixes o.net d) }
+
+-- ---- what a speaker has
+
+-- the rows that are recorded of d
+abbrev pub rows_of : List Row → DeviceId → List Row
+rows_of rows d = filter (λ x. same_device x.device d) rows
+
+-- the choice is held too, if there is one
+abbrev pub with_choice : FinMap prefix_cmp Choice → Cidr → Option Choice → FinMap prefix_cmp Choice
+with_choice best p None = best
+with_choice best p (Some c) = fin.insert best p c
+
+-- what d says of each prefix that is recorded of it
+abbrev pub said_routes : RecordedOpening → DeviceId → FinMap prefix_cmp Choice
+said_routes r d = fold (λ best x. with_choice best x.prefix (said_by r.opening r.rows d x.prefix)) fin.empty (rows_of r.rows d)
+
+-- A speaker holds what it says, and nothing that it holds is ever dirty: no session leads to it, so it takes in nothing.
+abbrev pub speaker_rib : RecordedOpening → DeviceId → Rib
+speaker_rib r d = record { best = said_routes r d; dirty = set.empty }
+
+-- ---- the state
+
+abbrev pub first_rib : RecordedOpening → DeviceId → Rib
+first_rib r d = if holds_device r.opening.emulated d then emulated_rib r.opening d else speaker_rib r d
+
+-- what each device holds, by its number
+unfoldable pub first_ribs : RecordedOpening → List Rib
+first_ribs r = map (first_rib r) (device_ids r.opening.net)
+
+unfoldable pub start : RecordedOpening → CoreState
+start r = record { net = r.opening.net; sessions = first_sessions r.opening; ribs = first_ribs r }
