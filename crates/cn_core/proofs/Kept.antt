@@ -141,7 +141,7 @@ receiver_emulated r s k a b m rest e =
 
 -- ---- what is clean is decided
 
-device_tells : (d e : DeviceId) → (d ≡ e) ⊎ (d ≢ e)
+pub device_tells : (d e : DeviceId) → (d ≡ e) ⊎ (d ≢ e)
 device_tells d e = elim (same_device d e) as (λ t. same_device d e ≡ t → (d ≡ e) ⊎ (d ≢ e)) [
   | true ↦ λ t. inl ((same_device-Decides d e).0 t)
   | false ↦ λ t. inr (λ h. true≢false (sym ((same_device-Decides d e).1 h) ∙ t))

@@ -22,3 +22,4 @@ pub mod Logged
 pub mod Pulls
 mod Rowing
 mod Speaking
+mod Owings

@@ -64,7 +64,7 @@ numbers_themselves (x ∷ xs) = ap (λ b. b && same_numbers xs xs) (eq-eqb x.0 x
 pub attributes_themselves : (x : Attributes) → same_attributes x x ≡ true
 attributes_themselves x = ap (λ b. b && (origin_code x.origin == origin_code x.origin)) (numbers_themselves x.path) ∙ eq-eqb (origin_code x.origin) (origin_code x.origin) refl
 
-not_news : (o : Option Attributes) (h : Attributes) → is_news o (Some h) ≡ false → o ≡ Some h
+pub not_news : (o : Option Attributes) (h : Attributes) → is_news o (Some h) ≡ false → o ≡ Some h
 not_news None h e = absurd (true≢false e)
 not_news (Some g) h e =
     elim (same_attributes g h) as (λ t. same_attributes g h ≡ t → not t ≡ false → Some g ≡ Some h) [
@@ -72,7 +72,7 @@ not_news (Some g) h e =
       | false ↦ λ t e. absurd (true≢false e)
     ] refl e
 
-news_differs : (o f : Option Attributes) → is_news o f ≡ true → o ≢ f
+pub news_differs : (o f : Option Attributes) → is_news o f ≡ true → o ≢ f
 news_differs o None e is = absurd (true≢false (sym e))
 news_differs None (Some h) e is = cc
 news_differs (Some g) (Some h) e is =
@@ -118,7 +118,7 @@ a_match {X} t (x ∷ xs) e s f =
 
 -- ---- what is owed
 
-nothing_offered : (net : Network) (a b : DeviceId) (p : Cidr) → offered net a b p None ≡ None
+pub nothing_offered : (net : Network) (a b : DeviceId) (p : Cidr) → offered net a b p None ≡ None
 unfolding offered offer_of
 nothing_offered net a b p = refl
 

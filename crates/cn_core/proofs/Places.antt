@@ -17,7 +17,7 @@ use Rattle.cn_core.specs.Whole.{IsNowhere, IsPlaceOf, by_ends}
 
 -- ---- the item at a place
 
-find_there : {A : Type 0} (t : A → Bool) (xs : List A) (i : ℕ) (d : A) → i < length xs → ((k : ℕ) → k < i → t (get_or xs k d) ≡ false) → t (get_or xs i d) ≡ true → find t xs ≡ Some (get_or xs i d)
+pub find_there : {A : Type 0} (t : A → Bool) (xs : List A) (i : ℕ) (d : A) → i < length xs → ((k : ℕ) → k < i → t (get_or xs k d) ≡ false) → t (get_or xs i d) ≡ true → find t xs ≡ Some (get_or xs i d)
 find_there t [] i d inside before here = absurd (omega (arith, inside))
 find_there t (x ∷ xs) zero d inside before here = ap (λ b. cond b (Some x) (find t xs)) here
 find_there t (x ∷ xs) (suc i) d inside before here =
@@ -29,7 +29,7 @@ change_there t f (x ∷ xs) zero d inside before here = ap (λ b. cond b (f x �
 change_there t f (x ∷ xs) (suc i) d inside before here =
     ap (λ b. cond b (f x ∷ xs) (x ∷ at_first t f xs)) (before 0 (omega arith)) ∙ ap (λ ys. x ∷ ys) (change_there t f xs i d (omega (arith, inside)) (λ k lt. before (suc k) (omega (arith, lt))) here)
 
-find_nowhere : {A : Type 0} (t : A → Bool) (xs : List A) → ((k : ℕ) (d : A) → k < length xs → t (get_or xs k d) ≡ false) → find t xs ≡ None
+pub find_nowhere : {A : Type 0} (t : A → Bool) (xs : List A) → ((k : ℕ) (d : A) → k < length xs → t (get_or xs k d) ≡ false) → find t xs ≡ None
 find_nowhere t [] none = refl
 find_nowhere t (x ∷ xs) none = ap (λ b. cond b (Some x) (find t xs)) (none 0 x (omega arith)) ∙ find_nowhere t xs (λ k d lt. none (suc k) d (omega (arith, lt)))
 

@@ -12,3 +12,4 @@ pub mod Whole
 pub mod Learnt
 pub mod Rows
 pub mod Codes
+pub mod Owing

@@ -10,7 +10,7 @@ ghost use Rattle.cn_core.specs.Pulled.{IsPulled};
 use crate::engine::Engine;
 use crate::event::{Event, Step};
 use crate::pull::Pull;
-use crate::start::open;
+use crate::start::{Opened, open};
 use cn_base::Standing;
 use cn_net::{DeviceSet, Net};
 use cn_record::Recorded;
@@ -34,6 +34,8 @@ pub struct Core {
     recorded: Snapshot<Recorded>,
     emulated: DeviceSet,
     engine: Engine,
+    // whether each session owes a message, by the place of the session
+    owing: Vec<bool>,
     history: Vec<Step>,
 }
 
@@ -41,6 +43,7 @@ impl Model for Core {
     ghost use Rattle.std.specs.Prelude.{◌≡◌};
     ghost use Rattle.cn_core.specs.Log.{IsState, Log};
     ghost use Rattle.cn_core.specs.LogCode.{log_code};
+    ghost use Rattle.cn_core.specs.Owing.{IsOwing};
 
     ghost Value = { Log };
 
@@ -48,7 +51,7 @@ impl Model for Core {
 
     ghost view = { λ c. record { recorded = c.recorded.value; history = c.history.items } };
 
-    ghost invariant = { λ c. IsState c.recorded.value c.history.items c.engine × (c.emulated ≡ c.recorded.value.opening.emulated) };
+    ghost invariant = { λ c. IsState c.recorded.value c.history.items c.engine × (c.emulated ≡ c.recorded.value.opening.emulated) × IsOwing c.engine c.owing.items };
 }
 
 impl Core {
@@ -62,12 +65,23 @@ impl Core {
         recorded.valid();
         let opening = Snapshot::of(&recorded);
         match open(alloc, recorded) {
-            Ok((engine, emulated)) => Ok(Core {
-                recorded: opening,
-                emulated,
-                engine,
-                history: Vec::new(alloc),
-            }),
+            Ok(opened) => {
+                let Opened {
+                    engine,
+                    emulated,
+                    owing,
+                } = opened;
+                let mut owing = owing;
+                let places = owing.len();
+                engine.settle(&mut owing, 0, places);
+                Ok(Core {
+                    recorded: opening,
+                    emulated,
+                    engine,
+                    owing,
+                    history: Vec::new(alloc),
+                })
+            }
             Err(recorded) => Err(recorded),
         }
     }
@@ -89,6 +103,7 @@ impl Core {
         if self.engine.apply(alloc, &event).is_err() {
             return Err(StepAnswer::Memory);
         }
+        self.engine.settle_after(&mut self.owing, &event);
         self.history.push_reserved(Step::Work(event));
         Ok(())
     }
@@ -111,14 +126,14 @@ impl Core {
         ensures event { result ≡ first_event (now self.now) }
         ensures kept { IsKept self.now.recorded (now self.now) }
     {
-        self.engine.first()
+        self.engine.first(&self.owing)
     }
 
     /// What is pending first. It takes no memory.
     pub fn standing(&self) -> Standing
         ensures { result ≡ standing (now self.now) }
     {
-        self.engine.standing()
+        self.engine.standing(&self.owing)
     }
 
     /// The tables of the emulated devices exactly where the state is quiet, and they are then those of the

@@ -6,11 +6,12 @@ ghost use Rattle.std.specs.FinMap as fin;
 ghost use Rattle.cn_net.specs.Network.{IsDevice};
 ghost use Rattle.cn_rib.specs.PrefixSet as set;
 ghost use Rattle.cn_core.specs.Machine.{after_event, can, decide, receive, send};
+ghost use Rattle.cn_core.specs.Owing.{owes_for};
 ghost use Rattle.cn_core.specs.State.{is_session, owed_by, rib, session};
 ghost use Rattle.cn_core.specs.Whole.{IsNowhere, IsPlaceOf, IsWhole};
 
 use crate::event::Event;
-use crate::owed::{message, owes};
+use crate::owed::{message, owes, owes_for};
 use crate::session::{Rib, Session, receive};
 use cn_base::{Choice, DeviceId, Prefix};
 use cn_net::Net;
@@ -38,8 +39,8 @@ impl Model for Engine {
 }
 
 impl Engine {
-    // The place of a session, found by halving.
-    fn place(&self, from: DeviceId, to: DeviceId) -> Option<usize>
+    /// The place of a session, found by halving.
+    pub fn place(&self, from: DeviceId, to: DeviceId) -> Option<usize>
         requires whole { IsWhole self.now }
         ensures { MatchOption result (IsNowhere from to self.now.sessions) (λ i. IsPlaceOf from to self.now.sessions i) }
     {
@@ -100,6 +101,16 @@ impl Engine {
         ensures { result ≡ is_some (owed_by self.now session.now) }
     {
         owes(&self.net, session, self.best(session.from))
+    }
+
+    /// Whether a session owes a message for a prefix.
+    pub fn owes_for(&self, session: &Session, prefix: &Prefix) -> bool
+        requires whole { IsWhole self.now }
+        requires from { IsDevice self.now.net session.now.from }
+        requires to { IsDevice self.now.net session.now.to }
+        ensures { result ≡ owes_for self.now session.now prefix.now }
+    {
+        owes_for(&self.net, session, self.best(session.from), prefix)
     }
 
     // ---- whether an event is enabled

@@ -4,6 +4,7 @@ ghost use Rattle.std.specs.Prelude.{◌≡◌, IfOk, Some, is_none, is_some, opt
 ghost use Rattle.std.specs.FinMap as fin;
 ghost use Rattle.std.specs.List.{find};
 ghost use Rattle.cn_net.specs.Network.{IsDevice};
+ghost use Rattle.cn_core.specs.Owing.{differs};
 ghost use Rattle.cn_core.specs.Rows.{pair_of};
 ghost use Rattle.cn_core.specs.State.{announcement, is_news, offered, owed, wanted, withdrawal};
 
@@ -130,6 +131,24 @@ pub fn owes(net: &Net, session: &Session, best: &PrefixMap<Choice>) -> bool
     ensures { result ≡ is_some (owed net.now session.now.from session.now.to session.now.sent best.now) }
 {
     withdrawal(net, session, best).is_some() || announcement(net, session, best).is_some()
+}
+
+/// Whether a session owes a message for a prefix.
+pub fn owes_for(net: &Net, session: &Session, best: &PrefixMap<Choice>, prefix: &Prefix) -> bool
+    requires from { IsDevice net.now session.now.from }
+    requires to { IsDevice net.now session.now.to }
+    ensures { result ≡ differs (fin.get session.now.sent prefix.now) (wanted net.now session.now.from session.now.to best.now prefix.now) }
+{
+    if is_withdrawn(net, session.from, session.to, best, prefix) {
+        return session.sent.get(prefix).is_some();
+    }
+    match best.get(prefix) {
+        Some(choice) => {
+            let sent = session.sent.get(prefix);
+            is_news(net, session.from, session.to, prefix, sent, choice)
+        }
+        None => false,
+    }
 }
 
 // The announcement of what is offered of a choice.

@@ -1,7 +1,7 @@
 //! The state at the start: nothing was sent, the own prefixes of each emulated device are dirty, and each
 //! speaker holds what it says.
 
-ghost use Rattle.std.specs.Prelude.{◌≡◌, ◌++◌, ◌∷◌, [], IfErr, IfOk, OnOk, map, option_copied};
+ghost use Rattle.std.specs.Prelude.{◌≡◌, ◌++◌, ◌∷◌, [], IfErr, IfOk, OnOk, length, map, option_copied};
 ghost use Rattle.std.specs.List.{filter};
 ghost use Rattle.cn_net.specs.Islands.{holds_device};
 ghost use Rattle.cn_net.specs.Network.{peers_of};
@@ -178,27 +178,40 @@ fn ribs(alloc: Global, recorded: &Recorded) -> Result<Vec<Rib>, AllocError>
     Ok(ribs)
 }
 
-/// The state at the start, and the emulated devices. The opening is handed back for want of memory.
+/// The state at the start, the emulated devices, and room to remember which sessions owe a message. None was
+/// looked at yet.
+pub struct Opened {
+    pub engine: Engine,
+    pub emulated: DeviceSet,
+    pub owing: Vec<bool>,
+}
+
+/// The state at the start. The opening is handed back for want of memory.
 #[tactic(auto, unfolding(crate::specs::Start::start))]
-pub fn open(alloc: Global, recorded: Recorded) -> Result<(Engine, DeviceSet), Recorded>
-    ensures engine { IfOk result (λ made. made.0 ≡ start recorded) }
-    ensures emulated { IfOk result (λ made. made.1 ≡ recorded.opening.emulated) }
+pub fn open(alloc: Global, recorded: Recorded) -> Result<Opened, Recorded>
+    ensures engine { IfOk result (λ made. made.engine ≡ start recorded) }
+    ensures emulated { IfOk result (λ made. made.emulated ≡ recorded.opening.emulated) }
+    ensures owing { IfOk result (λ made. length made.owing.items ≡ length made.engine.sessions) }
     ensures err { IfErr result (λ back. back ≡ recorded) }
 {
-    match (
+    let (Ok(sessions), Ok(ribs)) = (
         sessions(alloc, recorded.certified()),
         ribs(alloc, &recorded),
-    ) {
-        (Ok(sessions), Ok(ribs)) => {
-            let (certified, _) = recorded.parts();
-            let (net, emulated, _) = certified.parts();
-            let engine = Engine {
-                net,
-                sessions,
-                ribs,
-            };
-            Ok((engine, emulated))
-        }
-        _ => Err(recorded),
-    }
+    ) else {
+        return Err(recorded);
+    };
+    let Ok(owing) = vec![in alloc; false; sessions.len()] else {
+        return Err(recorded);
+    };
+    let (certified, _) = recorded.parts();
+    let (net, emulated, _) = certified.parts();
+    Ok(Opened {
+        engine: Engine {
+            net,
+            sessions,
+            ribs,
+        },
+        emulated,
+        owing,
+    })
 }
