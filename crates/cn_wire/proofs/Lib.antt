@@ -1,0 +1,10 @@
+pub mod Parts
+pub mod Steps
+pub mod Loops
+pub mod PrefixesFound
+pub mod AttributesFound
+pub mod OrderFound
+pub mod MessagesFound
+pub mod Again
+pub mod Answered
+pub mod Written

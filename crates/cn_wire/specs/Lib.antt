@@ -1,0 +1,5 @@
+pub mod Numbers
+pub mod Spelling
+pub mod Writing
+pub mod Sizes
+pub mod Reading
