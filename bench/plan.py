@@ -141,4 +141,5 @@ def main(program):
         print(f"  without its records             {o / 1e6:7.1f} MB: {(m - o) / count:.0f} octets a record")
 
 
-main(sys.argv[1])
+if __name__ == "__main__":
+    main(sys.argv[1])

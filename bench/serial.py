@@ -10,6 +10,7 @@ ROOT = pathlib.Path(__file__).resolve().parent.parent
 sys.dont_write_bytecode = True  # each folder beside the fixpoint is a case
 sys.path.insert(0, str(ROOT / "acceptance"))
 import fixpoint
+import plan as plans
 
 PODS, LEAVES, RACKS, SPINES, SHIFT = 4, 4, 16, 8, 0
 
@@ -34,7 +35,7 @@ def listed(words):
     return "[" + ", ".join(f'"{word}"' for word in words) + "]"
 
 
-def plan(devices, links):
+def emulated_plan(devices, links):
     """The plan that emulates all of them. Their router ids count up from 172.16.0.1."""
     text = [f"version = 1\nemulate = {listed(device[0] for device in devices)}\n"]
     for n, (name, layer, asn, own) in enumerate(devices, 1):
@@ -84,25 +85,34 @@ def check(text, works, tables):
         sys.exit(f"answers differ in line {n + 1}: wanted {wanted[n:n + 1]}, found {found[n:n + 1]}")
 
 
-def main(program):
-    devices, links = fabric(PODS, LEAVES, RACKS, SPINES, SHIFT)
+def run_until_quiet(program, title, text):
+    """Runs a plan until it is quiet, three times, against the fixpoint of its whole network, and prints the best."""
     with tempfile.TemporaryDirectory() as spot:
         spot = pathlib.Path(spot)
-        (spot / "plan.toml").write_text(plan(devices, links))
+        (spot / "plan.toml").write_text(text)
         tables = fixpoint.tables(fixpoint.read(spot / "plan.toml"))
         for works in range(1, 21):
             (spot / "script.toml").write_text(script(works))
             if "pull again" not in measured(program, spot)[2]:
                 break
         runs = [measured(program, spot) for _ in range(3)]
-        for _, _, text in runs:
-            check(text, works, tables)
+        for _, _, answers in runs:
+            check(answers, works, tables)
         lines = (spot / "trace.txt").read_text().splitlines()
     events = sum(not line.startswith("mark ") for line in lines[1:])
     rows = sum(not line.startswith("table ") for line in tables.splitlines())
     seconds, octets = min(run[0] for run in runs), min(run[1] for run in runs)
-    print(f"{len(devices)} devices, {len(links)} links, {PODS * RACKS} prefixes; quiet with {rows} rows, as the fixpoint")
-    print(f"  {events} events  {seconds:.3f} s  {events / seconds:.0f} events per second  {octets / 1e6:.1f} MB")
+    print(f"{title}; quiet with {rows} rows, as the fixpoint of the whole network")
+    print(f"  {events} events  {seconds:.3f} s  {events / seconds:.0f} events per second  {octets / 1e6:.1f} MB", flush=True)
+
+
+def main(program):
+    devices, links = fabric(PODS, LEAVES, RACKS, SPINES, SHIFT)
+    title = f"{len(devices)} devices, all emulated, {len(links)} links, {PODS * RACKS} prefixes"
+    run_until_quiet(program, title, emulated_plan(devices, links))
+    text, records = plans.recorded_plan()
+    count = text.count("[[device]]")
+    run_until_quiet(program, f"{count} devices, the first pod emulated, {records} records of speakers", text)
 
 
 main(sys.argv[1])
