@@ -6,5 +6,5 @@
 # runs. The figures that count are the ratios, since machines differ.
 set -eu
 root=$(cd -- "$(dirname -- "$0")/.." && pwd)
-"$root/crystal" >/dev/null </dev/null || [ $? -eq 2 ] # builds it where it isn't built
+"$root/build"
 exec python3 "$root/bench/plan.py" "$root/crates/crystal/out/crystal"

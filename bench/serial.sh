@@ -7,5 +7,5 @@
 # the tables aren't those of acceptance/fixpoint.py, which knows no records: it lets all devices of the network decide.
 set -eu
 root=$(cd -- "$(dirname -- "$0")/.." && pwd)
-"$root/crystal" >/dev/null </dev/null || [ $? -eq 2 ] # builds it where it isn't built
+"$root/build"
 exec python3 "$root/bench/serial.py" "$root/crates/crystal/out/crystal"
