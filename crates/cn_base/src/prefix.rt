@@ -1,7 +1,7 @@
 //! Prefixes of IPv4 addresses (RFC 4271, 4.3).
 
 ghost use Rattle.std.specs.Prelude.{◌≡◌, MatchOption};
-ghost use Rattle.cn_base.specs.Cidr.{IsCidr};
+ghost use Rattle.cn_base.specs.Cidr.{Cidr, IsCidr, covers};
 
 use std::marker::Model;
 
@@ -29,7 +29,8 @@ impl Prefix {
     /// The prefix of these bits and this length. None comes exactly where the length passes 32 or a
     /// bit after the first `len` is set.
     pub fn new(bits: u32, len: u8) -> Option<Prefix>
-        ensures { MatchOption result (IsCidr (record { bits = bits; len = len }) → ⊥) (λ p. (p ≡ record { bits = bits; len = len }) × IsCidr p) }
+        ensures { let cidr : Cidr = record { bits = bits; len = len } in
+            MatchOption result (IsCidr cidr → ⊥) (λ p. (p ≡ cidr) × IsCidr p) }
     {
         if len > 32 {
             return None;
@@ -43,15 +44,28 @@ impl Prefix {
 
     /// The bits, as one number.
     pub fn bits(&self) -> u32
-        ensures { result ≡ self.now.bits }
+        ensures value { result ≡ self.now.bits }
+        ensures is_cidr { IsCidr self.now }
     {
         self.bits
     }
 
     /// How many of the bits count, at most 32.
     pub fn len(&self) -> u8
-        ensures { result ≡ self.now.len }
+        ensures value { result ≡ self.now.len }
+        ensures is_cidr { IsCidr self.now }
     {
         self.len
+    }
+
+    /// Holds where `other` is at least as long and begins with the same bits. It takes no memory.
+    pub fn covers(&self, other: &Prefix) -> bool
+        ensures { result ≡ covers self.now other.now }
+    {
+        if other.len < self.len {
+            return false;
+        }
+        let step = 1u64 << (32 - self.len);
+        u64::from(self.bits) / step == u64::from(other.bits) / step
     }
 }

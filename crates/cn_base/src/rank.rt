@@ -5,9 +5,9 @@ ghost use Rattle.cn_base.specs.Rank.{ranks_before};
 
 use crate::ids::{Origin, RouterId};
 
-/// What decides between two routes: the least is preferred. The order is by the fields as they stand,
-/// `false` first, so a device's own route comes before each that it learnt. `length` counts the numbers
-/// of the path, and `sender` is the BGP Identifier of the device that it came from.
+/// What decides between two routes: the least is preferred. The order is by the fields as they
+/// stand, `false` first, so a device's own route comes before each that it learnt. `length` counts
+/// the numbers of the path, and `sender` is the BGP Identifier of the device that it came from.
 #[derive(Clone, Copy, Debug, PartialEq, Eq, PartialOrd, Ord)]
 pub struct Rank {
     pub learnt: bool,

@@ -1,4 +1,4 @@
-//! Routes (RFC 4271, 1.1 and 5.1), and what a device holds for a prefix.
+//! Routes (RFC 4271, 1.1 and 5.1), their path attributes, and what a device holds for a prefix.
 
 ghost use Rattle.std.specs.Prelude.{◌≡◌, IfOk};
 
@@ -15,8 +15,15 @@ pub struct Route {
     pub origin: Origin,
 }
 
-/// What a device holds for a prefix. `from` is the device that it came from, and none where the route
-/// is the device's own.
+/// The path attributes of a route: its AS_PATH and its ORIGIN (RFC 4271, 5.1.1 and 5.1.2).
+#[derive(Debug, Drop)]
+pub struct Attributes {
+    pub path: AsPath,
+    pub origin: Origin,
+}
+
+/// What a device holds for a prefix. `from` is the device that it came from, and none where the
+/// route is the device's own.
 #[derive(Debug, Drop)]
 pub struct Choice {
     pub from: Option<DeviceId>,
@@ -31,6 +38,18 @@ impl Route {
     {
         Ok(Route {
             prefix: self.prefix,
+            path: self.path.copy(alloc)?,
+            origin: self.origin,
+        })
+    }
+}
+
+impl Attributes {
+    /// Equal attributes.
+    pub fn copy(&self, alloc: Global) -> Result<Attributes, AllocError>
+        ensures { IfOk result (λ attributes. attributes ≡ self.now) }
+    {
+        Ok(Attributes {
             path: self.path.copy(alloc)?,
             origin: self.origin,
         })

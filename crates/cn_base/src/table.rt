@@ -16,8 +16,8 @@ pub struct TableRow {
     pub choice: Choice,
 }
 
-/// Rows whose prefixes ascend strictly, by the bits and then by the length. Contracts see the list of
-/// the rows.
+/// Rows whose prefixes ascend strictly, by the bits and then by the length. Contracts see the list
+/// of the rows.
 #[derive(Debug, Drop)]
 pub struct Table {
     rows: Vec<TableRow>,

@@ -1,7 +1,10 @@
-pub mod Leasts
-pub mod Members
-pub mod Boundaries
-pub mod Sides
+pub mod Lists
+pub mod Finding
+pub mod Named
+pub mod Splits
+pub mod Facings
+pub mod Systems
 pub mod Prefixes
 pub mod Shares
 pub mod Orders
+pub mod Classes

@@ -1,195 +1,315 @@
--- The first refusal of an island's prefixes.
-use Rattle.std.proofs.Common.{◌≡◌, ◌≢◌, ℕ, ◌<◌, ◌≤◌, ◌⊎◌, Bool, true, false, List, flat_map, Option, Some, None, is_some, option_map, refl, sym, ap, subst, ◌∙◌, inl, inr, arith}
-use Rattle.std.proofs.lemmas.Bool.{cases_Bool, cond-true, cond-false, not-true, not-false, eq-eqb, true≢false}
+-- The first refusal of an island's prefixes, from the devices that originate prefixes.
+use Rattle.std.proofs.Common.{◌≡◌, ◌≢◌, ℕ, ◌<◌, ◌≤◌, ◌⊎◌, Bool, true, false, List, length, get_or, map, find, Option, Some, None, option_map, refl, sym, ap, subst, ◌∙◌, inl, inr, arith}
+use Rattle.std.specs.Prelude.{◌↔◌, IsTrue, Contains}
+use Rattle.std.proofs.lemmas.Bool.{cases_Bool, and_parts, and_from, cond-true, cond-false, not-true, not_from_false, true≢false}
 use Rattle.std.proofs.lemmas.Bool.Decides.{nat_tests}
+use Rattle.std.proofs.lemmas.Cmp.{nat_cmp_total, on_total, then_total}
+use Rattle.std.proofs.lemmas.List.Sorted.{Contains-permutation, IsPermutation-sym}
 use Rattle.std.proofs.lemmas.Option.{none-some, same_Some}
-use Rattle.std.specs.List.{Contains}
+use Rattle.std.specs.BTreeSet.{BTreeSet, contains}
+use Rattle.std.specs.Cmp.{IsTotalOrder}
+use Rattle.std.specs.List.{filter_map}
+use Rattle.std.specs.List.Sorted.{IsPermutation, IsSorted}
 use Rattle.std.specs.Option.{option_eq}
-use Rattle.std.specs.Ordering.{is_gt, nat_cmp, ordering_then}
-use Rattle.std.specs.Prelude.{nat_eq, IsSome, MatchOption, ◌↔◌}
+use Rattle.std.specs.Ordering.{is_lt, nat_cmp, ordering_then}
 use Rattle.cn_base.specs.Cidr.{Cidr}
+use Rattle.cn_base.specs.Table.{prefix_cmp}
 use Rattle.cn_base.specs.declared.ids.DeviceId.{DeviceId}
 use Rattle.cn_net.specs.Certificate.{Originates}
 use Rattle.cn_net.specs.Network.{Network, same_device}
-use Rattle.cn_cert.specs.Groups.{IsLeast, IsLeastAmong, HasMember, differs, mark_of, member}
-use Rattle.cn_cert.specs.Origins.{elsewhere_of, shared_member, shared_members}
-use Rattle.cn_cert.specs.Refusal.{HasOwnPrefixes, IsFirstOfKind, IsRefusal, OriginatesElsewhere, OriginatesInside, island_of, kind_place}
-use Rattle.cn_cert.specs.declared.groups.Mark.TheVariants.{Island}
-use Rattle.cn_cert.specs.declared.groups.Member.{Member}
+use Rattle.cn_cert.specs.Refusal.{IsLeast, IsPrefixBefore, OriginatesElsewhere, OriginatesInside, Refuses, island_of, kind_place}
+use Rattle.cn_cert.specs.Steps.{AreMembers, HaveOwnPrefixes, IsFirstOfKind, IsSplit, by_key, is_elsewhere, island_prefix_cmp, member, shared, with_island}
+use Rattle.cn_cert.specs.declared.members.Member.{Member}
 use Rattle.cn_cert.specs.declared.refusal.Refusal.{Refusal}
 use Rattle.cn_cert.specs.declared.refusal.Refusal.TheVariants.{Facing, Origins}
-use Rattle.cn_cert.proofs.Leasts.{least_same}
-use Rattle.cn_cert.proofs.Members.{same_number, flat_has, flat_from, option_has, option_from}
-use Rattle.cn_cert.proofs.Sides.{is_some_or, no_side}
+use Rattle.cn_cert.proofs.Finding.{by_key_total, device_le, first_least, found_has, found_least, found_passes, id_cmp_total, not_found}
+use Rattle.cn_cert.proofs.Lists.{filter_map_from, filter_map_has, map_from, map_has, number_itself, prefix_is, prefix_itself, same_number}
+use Rattle.cn_cert.proofs.Systems.{no_side}
 
--- ---- labels
+-- ---- orders
 
-same_label : (x y : Option DeviceId) → option_eq nat_eq (option_map (λ i. i.0) x) (option_map (λ i. i.0) y) ≡ true → x ≡ y
-same_label None None e = refl
-same_label None (Some y) e = absurd (true≢false (sym e))
-same_label (Some x) None e = absurd (true≢false (sym e))
-same_label (Some x) (Some y) e = ap Some (same_number x y e)
+prefix_total : IsTotalOrder prefix_cmp
+prefix_total =
+    then_total (on_total (λ (p : Cidr). p.bits) nat_cmp_total)
+    (on_total (λ (p : Cidr). p.len) nat_cmp_total)
 
-label_itself : (x y : Option DeviceId) → x ≡ y → option_eq nat_eq (option_map (λ i. i.0) x) (option_map (λ i. i.0) y) ≡ true
-label_itself None None e = refl
-label_itself None (Some y) e = absurd (none-some y e)
-label_itself (Some x) None e = absurd (none-some x (sym e))
-label_itself (Some x) (Some y) e = eq-eqb x.0 y.0 (ap (λ z. z.0) (same_Some x y e))
+place_total : IsTotalOrder island_prefix_cmp
+place_total =
+    then_total (on_total (λ (k : DeviceId × Cidr). k.0) id_cmp_total)
+    (on_total (λ (k : DeviceId × Cidr). k.1) prefix_total)
 
-label_is : (x : Option DeviceId) (i : DeviceId) → option_eq same_device x (Some i) ≡ true → x ≡ Some i
-label_is None i e = absurd (true≢false (sym e))
-label_is (Some x) i e = ap Some (same_number x i e)
+-- y isn't before x: then x's island isn't above y's, and in one island y's prefix isn't before x's
+order_island : (a b c d e f g h : ℕ)
+    → is_lt (ordering_then (ordering_then (nat_cmp b a) (ordering_then (nat_cmp d c) (nat_cmp f e)))
+    (nat_cmp h g))
+    ≡ false
+    → a ≤ b
+order_island a b c d e f g h s = grind (arith, nat_tests)
 
-label_is_not : (x : Option DeviceId) (i : DeviceId) → option_eq same_device x (Some i) ≡ false → x ≢ Some i
-label_is_not None i e s = none-some i s
-label_is_not (Some x) i e s = true≢false (sym (eq-eqb x.0 i.0 (ap (λ z. z.0) (same_Some x i s))) ∙ e)
+order_prefix : (a c d e f g h : ℕ)
+    → is_lt (ordering_then (ordering_then (nat_cmp a a) (ordering_then (nat_cmp d c) (nat_cmp f e)))
+    (nat_cmp h g))
+    ≡ false
+    → (d < c) ⊎ ((d ≡ c) × (f < e)) → ⊥
+order_prefix a c d e f g h s (inl t) = grind (arith, nat_tests)
+order_prefix a c d e f g h s (inr t) = grind (arith, nat_tests)
 
-module _ (net : Network) (label : DeviceId → Option DeviceId) (a d : DeviceId) where
-  island_same : differs (mark_of net label Island) (Some a) d ≡ false → label a ≡ label d
-  island_same e = same_label (label a) (label d) (not-false (option_eq nat_eq (option_map (λ i. i.0) (label a)) (option_map (λ i. i.0) (label d))) e)
+-- ---- islands as numbers
 
-  island_apart : differs (mark_of net label Island) (Some a) d ≡ true → label d ≢ label a
-  island_apart e s = true≢false (sym (label_itself (label a) (label d) (sym s)) ∙ not-true (option_eq nat_eq (option_map (λ i. i.0) (label a)) (option_map (λ i. i.0) (label d))) e)
+number_of : Option DeviceId → Option ℕ
+number_of o = option_map (λ i. i.0) o
 
-  island_differs : label d ≢ label a → differs (mark_of net label Island) (Some a) d ≡ true
-  island_differs n = elim (cases_Bool (differs (mark_of net label Island) (Some a) d)) [ inl t ↦ t | inr f ↦ absurd (n (sym (island_same f))) ]
+same_island : (x y : Option DeviceId) → option_map (λ i. i.0) x ≡ option_map (λ i. i.0) y → x ≡ y
+same_island None None e = refl
+same_island None (Some y) e = absurd (none-some y.0 e)
+same_island (Some x) None e = absurd (none-some x.0 (sym e))
+same_island (Some x) (Some y) e = let n = same_Some x.0 y.0 e in ap Some (λ i. record { 0 = n i })
+
+island_is : (x : Option DeviceId) (i : DeviceId) → option_eq same_device x (Some i) ≡ true
+    → x ≡ Some i
+island_is None i e = absurd (true≢false (sym e))
+island_is (Some x) i e = ap Some (same_number x i e)
+
+is_island : (x : Option DeviceId) (i : DeviceId) → x ≡ Some i
+    → option_eq same_device x (Some i) ≡ true
+is_island None i e = absurd (none-some i e)
+is_island (Some x) i e = number_itself x i (same_Some x i e)
+
+module _ (name : DeviceId → Option DeviceId) (i : DeviceId) (p : Cidr) (m : Member Cidr) where
+  elsewhere_is : is_elsewhere name i p m ≡ true → (m.key ≡ p) × (name m.device ≢ Some i)
+  elsewhere_is t =
+      let h = and_parts _ _ t in (
+        prefix_is m.key p h.0,
+        λ e. true≢false (sym (is_island (name m.device) i e) ∙ not-true _ h.1),
+      )
+
+  is_elsewhere_so : m.key ≡ p → name m.device ≢ Some i → is_elsewhere name i p m ≡ true
+  is_elsewhere_so e ne = and_from _ _ (prefix_itself m.key p e)
+      (elim (cases_Bool (option_eq same_device (name m.device) (Some i))) [
+        | inl t ↦ absurd (ne (island_is (name m.device) i t))
+        | inr f ↦ not_from_false _ f
+      ])
 
 -- ---- members by island and prefix
 
-abbrev placed : {K : Type 0} → DeviceId → K → DeviceId → Member (DeviceId × K)
-placed {K} i k d = member {K = DeviceId × K} (i, k) d
-
-shared_from : {K : Type 0} (label : DeviceId → Option DeviceId) (is : Bool) (m : Member K) (i : DeviceId) (k : K) (d : DeviceId) → shared_member label is m ≡ Some (placed i k d) → (is ≡ true) × (label d ≡ Some i) × (m ≡ member k d)
-shared_from {K} label is m i k d e =
+shared_from : (name : DeviceId → Option DeviceId) (is : Bool) (m : Member Cidr)
+    (n : Member (DeviceId × Cidr))
+    → shared name is m ≡ Some n
+    → (is ≡ true) × (name m.device ≡ Some n.key.0) × (m ≡ member n.key.1 n.device)
+shared_from name is m n e =
     elim (cases_Bool is) [
-      | inl t ↦ go (label m.device) refl t (sym (cond-true is rest None t) ∙ e)
-      | inr f ↦ absurd (none-some (placed i k d) (sym (cond-false is rest None f) ∙ e))
+      | inl t ↦ go (name m.device) refl t (sym (cond-true is rest None t) ∙ e)
+      | inr f ↦ absurd (none-some n (sym (cond-false is rest None f) ∙ e))
     ]
   where
-    rest : Option (Member (DeviceId × K))
-    rest = option_map (λ island. placed island m.key m.device) (label m.device)
+    placed : DeviceId → Member (DeviceId × Cidr)
+    placed i = member (i, m.key) m.device
 
-    go : (o : Option DeviceId) → label m.device ≡ o → is ≡ true → option_map (λ island. placed island m.key m.device) o ≡ Some (placed i k d) → (is ≡ true) × (label d ≡ Some i) × (m ≡ member k d)
-    go None s t q = absurd (none-some (placed i k d) q)
+    rest : Option (Member (DeviceId × Cidr))
+    rest = option_map (λ i. member (i, m.key) m.device) (name m.device)
+
+    go : (o : Option DeviceId) → name m.device ≡ o → is ≡ true
+        → option_map (λ i. member (i, m.key) m.device) o ≡ Some n
+        → (is ≡ true) × (name m.device ≡ Some n.key.0) × (m ≡ member n.key.1 n.device)
+    go None s t q = absurd (none-some n q)
     go (Some x) s t q =
-        let r = same_Some (placed x m.key m.device) (placed i k d) q in
-        let device : m.device ≡ d = ap (λ z. z.device) r in
-        let key : m.key ≡ k = ap (λ z. z.key.1) r in
-        let island : x ≡ i = ap (λ z. z.key.0) r in
-        (t, ap label (sym device) ∙ s ∙ ap Some island, ap (λ z. member z m.device) key ∙ ap (member k) device)
+        let r : member (x, m.key) m.device ≡ n = same_Some _ n q in
+        let device : m.device ≡ n.device = ap (λ z. z.device) r in
+        let key : m.key ≡ n.key.1 = ap (λ z. z.key.1) r in
+        (t, s ∙ ap (λ z. Some z.key.0) r, λ i. record { key = key i; device = device i })
 
-shared_to : {K : Type 0} (label : DeviceId → Option DeviceId) (is : Bool) (i : DeviceId) (k : K) (d : DeviceId) → is ≡ true → label d ≡ Some i → shared_member label is (member k d) ≡ Some (placed i k d)
-shared_to label is i k d t l = cond-true is (option_map (λ island. placed island k d) (label d)) None t ∙ ap (option_map (λ island. placed island k d)) l
+shared_to : (name : DeviceId → Option DeviceId) (is : Bool) (i : DeviceId) (p : Cidr) (d : DeviceId)
+    → is ≡ true → name d ≡ Some i → shared name is (member p d) ≡ Some (member (i, p) d)
+shared_to name is i p d t e =
+    cond-true is (option_map (λ z. member {K = DeviceId × Cidr} (z, p) d) (name d)) None t
+    ∙ ap (option_map (λ z. member (z, p) d)) e
 
-shared_are : (net : Network) (label : DeviceId → Option DeviceId) (second : Cidr → Option DeviceId) (ms : List (Member Cidr)) (ys : List (Member (DeviceId × Cidr))) → ((p : Cidr) (d : DeviceId) → HasMember ms p d ↔ Originates net d p) → ys ≡ flat_map (shared_members label second) ms → (i : DeviceId) (p : Cidr) (d : DeviceId) → HasMember ys (i, p) d ↔ (IsSome (second p) × OriginatesInside net label i p d)
-shared_are net label second ms ys are e i p d = (from, to)
-  where
-    from : HasMember ys (i, p) d → IsSome (second p) × OriginatesInside net label i p d
-    from h =
-        let s = flat_from (shared_members label second) ms (placed i p d) (subst (λ z. Contains z (placed i p d)) e h) in
-        let m = s.0 in
-        let r = shared_from label (is_some (second m.key)) m i p d (option_from (shared_member label (is_some (second m.key)) m) (placed i p d) s.2) in
-        (subst (λ z. IsSome (second z)) (ap (λ z. z.key) r.2) r.0, record { label_is = r.1; originates = (are p d).0 (subst (Contains ms) r.2 s.1) })
+-- ---- the first of the origins
 
-    to : IsSome (second p) × OriginatesInside net label i p d → HasMember ys (i, p) d
-    to h = subst (λ z. Contains z (placed i p d)) (sym e) (flat_has (shared_members label second) ms (member p d) (placed i p d) ((are p d).1 h.1.originates)
-        (option_has (shared_member label (is_some (second p)) (member p d)) (placed i p d) (shared_to label (is_some (second p)) i p d h.0 h.1.label_is)))
+module _ (net : Network) (name : DeviceId → Option DeviceId) (list : List (Member Cidr))
+    (origins : AreMembers prefix_cmp (λ p d. Originates net d p) list)
+    (split : BTreeSet Cidr)
+    (split_are : (p : Cidr)
+    → IsTrue (contains prefix_cmp split p) ↔ IsSplit (map (with_island name) list) p)
+    (placed : List (Member (DeviceId × Cidr))) (up : IsSorted (by_key island_prefix_cmp) placed)
+    (placed_are : IsPermutation
+    (filter_map (λ m. shared name (contains prefix_cmp split m.key) m) list) placed) where
+  placing : Member Cidr → Option (Member (DeviceId × Cidr))
+  placing m = shared name (contains prefix_cmp split m.key) m
 
--- ---- the order of islands and prefixes
+  -- a prefix that devices of two islands originate
+  record IsApart (p : Cidr) : Type 0 where
+    x : DeviceId
+    y : DeviceId
+    x_originates : Originates net x p
+    y_originates : Originates net y p
+    apart : name x ≢ name y
 
-order_island : (a b c d e f : ℕ) → is_gt (ordering_then (nat_cmp a b) (ordering_then (nat_cmp c d) (nat_cmp e f))) ≡ false → a ≤ b
-order_island a b c d e f h = grind (arith, nat_tests)
+  apart_of : (p : Cidr) → contains prefix_cmp split p ≡ true → IsApart p
+  apart_of p t =
+      let s = (split_are p).0 t in
+      let x = map_from (with_island name) list (p, s.one) s.has_one in
+      let y = map_from (with_island name) list (p, s.other) s.has_other in
+      let originates =
+      λ (m : Member Cidr) (n : Option ℕ) (has : Contains list m) (e : with_island name m ≡ (p, n)).
+      subst (λ q. Originates net m.device q) (ap (λ z. z.0) e)
+      ((origins.exactly m.key m.device).0 has) in
+      record {
+        x = x.0.device;
+        y = y.0.device;
+        x_originates = originates x.0 s.one x.1 x.2;
+        y_originates = originates y.0 s.other y.1 y.2;
+        apart =
+            λ e.
+            s.apart (ap (λ z. z.1) (sym x.2) ∙ ap (option_map (λ i. i.0)) e ∙ ap (λ z. z.1) y.2);
+      }
 
-order_prefix : (a c d e f : ℕ) → is_gt (ordering_then (nat_cmp a a) (ordering_then (nat_cmp c d) (nat_cmp e f))) ≡ false → (d < c) ⊎ ((d ≡ c) × (f < e)) → ⊥
-order_prefix a c d e f h (inl s) = grind (arith, nat_tests)
-order_prefix a c d e f h (inr s) = grind (arith, nat_tests)
+  split_of : (p : Cidr) (x y : DeviceId) → Originates net x p → Originates net y p → name x ≢ name y
+      → contains prefix_cmp split p ≡ true
+  split_of p x y ox oy ne =
+      let has = λ (d : DeviceId) (o : Originates net d p).
+      map_has (with_island name) list (member p d) (p, option_map (λ i. i.0) (name d))
+      ((origins.exactly p d).1 o) refl in
+      (split_are p).1 (record {
+        one = option_map (λ i. i.0) (name x);
+        other = option_map (λ i. i.0) (name y);
+        has_one = has x ox;
+        has_other = has y oy;
+        apart = λ e. ne (same_island (name x) (name y) e);
+      })
 
--- the least originator of each prefix, the least of another island, and the least in each island of what is shared
-pub record IsShared (net : Network) (label : DeviceId → Option DeviceId) (first second : Cidr → Option DeviceId) (third : DeviceId × Cidr → Option DeviceId) : Type 0 where
-  pub first_is : (p : Cidr) → IsLeastAmong (λ d. Originates net d p) (first p)
-  pub second_is : (p : Cidr) → IsLeastAmong (λ d. Originates net d p × (differs (mark_of net label Island) (first p) d ≡ true)) (second p)
-  pub third_is : (i : DeviceId) (p : Cidr) → IsLeastAmong (λ d. IsSome (second p) × OriginatesInside net label i p d) (third (i, p))
+  placed_from : (n : Member (DeviceId × Cidr)) → Contains placed n
+      → (contains prefix_cmp split n.key.1 ≡ true)
+      × OriginatesInside net name n.key.0 n.key.1 n.device
+  unfolding placing
+  placed_from n h =
+      let s =
+      filter_map_from placing list n
+      (Contains-permutation _ _ n (IsPermutation-sym _ _ placed_are) h) in
+      let r = shared_from name (contains prefix_cmp split s.0.key) s.0 n s.2 in (
+        subst (λ (m : Member Cidr). contains prefix_cmp split m.key ≡ true) r.2 r.0,
+        record {
+          label_is = subst (λ (m : Member Cidr). name m.device ≡ Some n.key.0) r.2 r.1;
+          originates = (origins.exactly n.key.1 n.device).0 (subst (Contains list) r.2 s.1);
+        },
+      )
 
--- from the members that were found
-pub shared_split : (net : Network) (label : DeviceId → Option DeviceId) (ms xs zs : List (Member Cidr)) (ys ts : List (Member (DeviceId × Cidr))) (first second : Cidr → Option DeviceId) (third : DeviceId × Cidr → Option DeviceId) → xs ≡ ms → zs ≡ ms → ts ≡ ys → ys ≡ flat_map (shared_members label second) zs → ((p : Cidr) (d : DeviceId) → HasMember ms p d ↔ Originates net d p) → ((p : Cidr) → IsLeastAmong (HasMember xs p) (first p)) → ((p : Cidr) → IsLeastAmong (λ d. HasMember xs p d × (differs (mark_of net label Island) (first p) d ≡ true)) (second p)) → ((k : DeviceId × Cidr) → IsLeastAmong (HasMember ts k) (third k)) → IsShared net label first second third
-shared_split net label ms xs zs ys ts first second third e u v w are f s t =
-    let to : (p : Cidr) (d : DeviceId) → HasMember xs p d → Originates net d p = λ p d h. (are p d).0 (subst (λ z. HasMember z p d) e h) in
-    let back : (p : Cidr) (d : DeviceId) → Originates net d p → HasMember xs p d = λ p d h. subst (λ z. HasMember z p d) (sym e) ((are p d).1 h) in
-    let both = shared_are net label second ms ts are (v ∙ w ∙ ap (flat_map (shared_members label second)) u) in
-    record {
-      first_is = λ p. least_same (HasMember xs p) (λ d. Originates net d p) (first p) (to p) (back p) (f p);
-      second_is = λ p. least_same (λ d. HasMember xs p d × (differs (mark_of net label Island) (first p) d ≡ true)) (λ d. Originates net d p × (differs (mark_of net label Island) (first p) d ≡ true)) (second p) (λ d h. (to p d h.0, h.1)) (λ d h. (back p d h.0, h.1)) (s p);
-      third_is = λ i p. least_same (HasMember ts (i, p)) (λ d. IsSome (second p) × OriginatesInside net label i p d) (third (i, p)) (λ d. (both i p d).0) (λ d. (both i p d).1) (t (i, p));
-    }
+  placed_to : (i : DeviceId) (p : Cidr) (d : DeviceId) → contains prefix_cmp split p ≡ true
+      → OriginatesInside net name i p d → Contains placed (member (i, p) d)
+  unfolding placing
+  placed_to i p d t h =
+      Contains-permutation _ _ (member (i, p) d) placed_are
+      (filter_map_has placing list (member p d) (member (i, p) d)
+      ((origins.exactly p d).1 h.originates)
+      (shared_to name (contains prefix_cmp split p) i p d t h.label_is))
 
-module _ (net : Network) (label : DeviceId → Option DeviceId) (first second : Cidr → Option DeviceId) (third : DeviceId × Cidr → Option DeviceId) (split : IsShared net label first second third) where
-  first_at : (p : Cidr) (o : Option DeviceId) → first p ≡ o → IsLeastAmong (λ d. Originates net d p) o
-  first_at p o e = subst (IsLeastAmong (λ d. Originates net d p)) e (split.first_is p)
+  -- what is originated inside an island and elsewhere
+  placed_both : (i : DeviceId) (p : Cidr) (d x : DeviceId) → OriginatesInside net name i p d
+      → OriginatesElsewhere net name i p x → Contains placed (member (i, p) d)
+  placed_both i p d x hd hx =
+      placed_to i p d
+      (split_of p x d hx.originates hd.originates (λ e. hx.label_is_not (e ∙ hd.label_is))) hd
 
-  second_at : (p : Cidr) (o q : Option DeviceId) → first p ≡ o → second p ≡ q → IsLeastAmong (λ d. Originates net d p × (differs (mark_of net label Island) o d ≡ true)) q
-  second_at p o q e f = subst (λ w. IsLeastAmong (λ d. Originates net d p × (differs (mark_of net label Island) w d ≡ true)) q) e (subst (IsLeastAmong (λ d. Originates net d p × (differs (mark_of net label Island) (first p) d ≡ true))) f (split.second_is p))
-
-  third_at : (i : DeviceId) (p : Cidr) (o : Option DeviceId) → third (i, p) ≡ o → IsLeastAmong (λ d. IsSome (second p) × OriginatesInside net label i p d) o
-  third_at i p o e = subst (IsLeastAmong (λ d. IsSome (second p) × OriginatesInside net label i p d)) e (split.third_is i p)
-
-  one_label : (p : Cidr) → second p ≡ None → (x y : DeviceId) → Originates net x p → Originates net y p → label x ≡ label y
-  one_label p n x y ox oy = go (first p) refl
-    where
-      go : (o : Option DeviceId) → first p ≡ o → label x ≡ label y
-      go None e = absurd (first_at p None e x ox)
-      go (Some a) e = sym (like x ox) ∙ like y oy
-        where
-          like : (z : DeviceId) → Originates net z p → label a ≡ label z
-          like z oz = elim (cases_Bool (differs (mark_of net label Island) (Some a) z)) [
-            | inl t ↦ absurd (second_at p (Some a) None e n z (oz, t))
-            | inr f ↦ island_same net label a z f
-          ]
-
-  third_some : (i : DeviceId) (p : Cidr) (d x : DeviceId) → OriginatesInside net label i p d → OriginatesElsewhere net label i p x → IsSome (third (i, p))
-  third_some i p d x hd hx = is_some_or (third (i, p)) (λ n. third_at i p None n d
-      (is_some_or (second p) (λ m. hx.label_is_not (one_label p m x d hx.originates hd.originates ∙ hd.label_is)), hd))
-
-  pub own_prefixes : ((k : DeviceId × Cidr) → third k ≡ None) → HasOwnPrefixes net label
-  own_prefixes none i d x p l od ox = go (second p) refl
-    where
-      go : (o : Option DeviceId) → second p ≡ o → label x ≡ Some i
-      go None e = one_label p e x d ox od ∙ l
-      go (Some b) e = absurd (third_at i p None (none (i, p)) d (ap is_some e, record { label_is = l; originates = od }))
-
-  elsewhere_is : (i : DeviceId) (p : Cidr) (d : DeviceId) → Originates net d p → (o q : Option DeviceId) → first p ≡ o → second p ≡ q → IsSome q → (e : DeviceId) × (elsewhere_of label i o q ≡ Some e) × IsLeast (OriginatesElsewhere net label i p) e
-  elsewhere_is i p d od None q f s is = absurd (first_at p None f d od)
-  elsewhere_is i p d od (Some a) None f s is = absurd (true≢false (sym is))
-  elsewhere_is i p d od (Some a) (Some b) f s is =
-      elim (cases_Bool (option_eq same_device (label a) (Some i))) [
-        | inl t ↦
-            let l = label_is (label a) i t in (
-              b,
-              cond-true (option_eq same_device (label a) (Some i)) (Some b) (Some a) t,
-              least_same (λ d. Originates net d p × (differs (mark_of net label Island) (Some a) d ≡ true)) (OriginatesElsewhere net label i p) (Some b)
-                  (λ x h. record { label_is_not = λ y. island_apart net label a x h.1 (y ∙ sym l); originates = h.0 })
-                  (λ x h. (h.originates, island_differs net label a x (λ y. h.label_is_not (y ∙ l))))
-                  (second_at p (Some a) (Some b) f s),
-            )
-        | inr n ↦
-            let h = first_at p (Some a) f in
-            (a, cond-false (option_eq same_device (label a) (Some i)) (Some b) (Some a) n, record { one = record { label_is_not = label_is_not (label a) i n; originates = h.one }; least = λ x q. h.least x q.originates })
+  pub own_prefixes : length placed ≡ 0 → HaveOwnPrefixes net name
+  own_prefixes none i d x p is od ox =
+      elim (cases_Bool (option_eq same_device (name x) (Some i))) [
+        | inl t ↦ island_is (name x) i t
+        | inr f ↦
+            let elsewhere : OriginatesElsewhere net name i p x = record {
+              label_is_not = λ e. true≢false (sym (is_island (name x) i e) ∙ f);
+              originates = ox;
+            } in
+            let h = placed_both i p d x (record { label_is = is; originates = od }) elsewhere in
+            absurd (omega (arith, h.1, none))
       ]
 
-  pub refused_origins : (outside : DeviceId → Bool) (i : DeviceId) (p : Cidr) (inside : DeviceId) → third (i, p) ≡ Some inside → ((k : DeviceId × Cidr) → IsSome (third k) → is_gt (ordering_then (nat_cmp i.0 k.0.0) (ordering_then (nat_cmp p.bits k.1.bits) (nat_cmp p.len k.1.len))) ≡ false) → (r : Option Refusal) → r ≡ option_map (λ e. Origins i p inside e) (elsewhere_of label i (first p) (second p)) → MatchOption r (HasOwnPrefixes net label) (IsFirstOfKind net outside label 2)
-  refused_origins outside i p inside t low r is =
-      let h = third_at i p (Some inside) t in
-      let e = elsewhere_is i p inside h.one.1.originates (first p) (second p) refl refl h.one.0 in
-      subst (λ z. MatchOption z (HasOwnPrefixes net label) (IsFirstOfKind net outside label 2)) (sym (is ∙ ap (option_map (λ e. Origins i p inside e)) e.1))
-      (record {
-        refusal = record {
-          inside_least = record { one = h.one.1; least = λ x q. h.least x (h.one.0, q) };
-          elsewhere_least = e.2;
-          prefix_least = λ q d x b hd hx. order_prefix i.0 p.bits q.bits p.len q.len (low (i, q) (third_some i q d x hd hx)) b;
+  module _ (first : Member (DeviceId × Cidr)) (some : 0 < length placed)
+      (first_is : get_or placed 0 first ≡ first) where
+    abbrev island : DeviceId
+    island = first.key.0
+
+    abbrev prefix : Cidr
+    prefix = first.key.1
+
+    first_in : (contains prefix_cmp split prefix ≡ true)
+        × OriginatesInside net name island prefix first.device
+    first_in = placed_from first (0, some, first_is)
+
+    least : (n : Member (DeviceId × Cidr)) → Contains placed n
+        → is_lt (by_key island_prefix_cmp n first) ≡ false
+    least n h = first_least (by_key_total place_total) placed up first n some first_is h
+
+    inside_least : IsLeast (OriginatesInside net name island prefix) first.device
+    inside_least = record {
+      one = first_in.1;
+      least = λ x h.
+          device_le place_total first.key first.device x
+          (least (member first.key x) (placed_to island prefix x first_in.0 h));
+    }
+
+    pub has_elsewhere : find (is_elsewhere name island prefix) list ≡ None → ⊥
+    has_elsewhere none =
+        let s = apart_of prefix first_in.0 in
+        let inside = λ (d : DeviceId) (o : Originates net d prefix). in_or_not (name d) (λ ne.
+        not_found (is_elsewhere name island prefix) list (member prefix d) none
+        ((origins.exactly prefix d).1 o)
+        (is_elsewhere_so name island prefix (member prefix d) refl ne)) in
+        s.apart (inside s.x s.x_originates ∙ sym (inside s.y s.y_originates))
+      where
+        in_or_not : (o : Option DeviceId) → (o ≢ Some island → ⊥) → o ≡ Some island
+        in_or_not o h = elim (cases_Bool (option_eq same_device o (Some island))) [
+          | inl t ↦ island_is o island t
+          | inr f ↦ absurd (h (λ e. true≢false (sym (is_island o island e) ∙ f)))
+        ]
+
+    module _ (outside : DeviceId → Bool) (other : Member Cidr)
+        (second : find (is_elsewhere name island prefix) list ≡ Some other) where
+      other_is : (other.key ≡ prefix) × (name other.device ≢ Some island)
+      other_is =
+          elsewhere_is name island prefix other
+          (found_passes (is_elsewhere name island prefix) list other second)
+
+      elsewhere_least : IsLeast (OriginatesElsewhere net name island prefix) other.device
+      elsewhere_least = record {
+        one = record {
+          label_is_not = other_is.1;
+          originates = subst (λ p. Originates net other.device p) other_is.0
+              ((origins.exactly other.key other.device).0
+              (found_has (is_elsewhere name island prefix) list other second));
+        };
+        least = λ x h.
+            let after =
+            found_least (by_key_total prefix_total) list origins.sorted
+            (is_elsewhere name island prefix) other
+            (member prefix x) second ((origins.exactly prefix x).1 h.originates)
+            (is_elsewhere_so name island prefix (member prefix x) refl h.label_is_not) in
+            device_le prefix_total prefix other.device x
+            (subst
+            (λ k. is_lt (by_key prefix_cmp (member prefix x) (member k other.device)) ≡ false)
+            other_is.0 after);
+      }
+
+      prefix_least : (p : Cidr) (d x : DeviceId) → IsPrefixBefore p prefix
+          → OriginatesInside net name island p d → OriginatesElsewhere net name island p x → ⊥
+      prefix_least p d x before hd hx =
+          order_prefix island.0 prefix.bits p.bits prefix.len p.len first.device.0 d.0
+          (least (member (island, p) d) (placed_both island p d x hd hx)) before
+
+      none_lower : (s : Refusal) → Refuses net outside name (island_of s) s → kind_place s ≡ 2
+          → island.0 ≤ (island_of s).0
+      none_lower (Facing t j x x_asn y y_asn) q k = absurd (no_side t (sym k))
+      none_lower (Origins j p d x) q k =
+          order_island island.0 j.0 prefix.bits p.bits prefix.len p.len first.device.0 d.0
+          (least (member (j, p) d) (placed_both j p d x q.inside_least.one q.elsewhere_least.one))
+
+      pub refused_origins : IsFirstOfKind net outside name 2
+          (Origins island prefix first.device other.device)
+      refused_origins = record {
+        refuses = record {
+          inside_least = inside_least;
+          elsewhere_least = elsewhere_least;
+          prefix_least = prefix_least;
         };
         kind_is = refl;
         first = none_lower;
-      })
-    where
-      none_lower : (s : Refusal) → IsRefusal net outside label s → kind_place s ≡ 2 → i.0 ≤ (island_of s).0
-      none_lower (Facing t j a a_asn c c_asn) q k = absurd (no_side t (sym k))
-      none_lower (Origins j q d x) h k = order_island i.0 j.0 p.bits q.bits p.len q.len (low (j, q) (third_some j q d x h.inside_least.one h.elsewhere_least.one))
+      }

@@ -7,6 +7,7 @@ use Rattle.cn_cert.specs.declared.certificate.CertWhy.{CertWhy}
 use Rattle.cn_cert.specs.declared.certificate.CertWhy.TheVariants.{Memory, Refused}
 
 -- the reason is the first refusal, unless memory was short
-abbrev pub NamesRefusal : Network → (DeviceId → Bool) → (DeviceId → Option DeviceId) → CertWhy → Type 0
+abbrev pub NamesRefusal : Network → (DeviceId → Bool) → (DeviceId → Option DeviceId)
+    → CertWhy → Type 0
 NamesRefusal net outside label (Refused refusal) = IsFirstRefusal net outside label refusal
 NamesRefusal net outside label Memory = ⊤

@@ -1,6 +1,3 @@
-pub mod Groups
 pub mod Refusal
-pub mod Facing
-pub mod Origins
-pub mod Earlier
 pub mod Certificate
+pub mod Steps

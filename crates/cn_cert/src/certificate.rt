@@ -2,7 +2,7 @@
 
 ghost use Rattle.std.specs.Prelude.{◌≡◌, All, IfErr, IfOk, OnOk};
 ghost use Rattle.cn_net.specs.Certificate.{IsCertified};
-ghost use Rattle.cn_net.specs.Islands.{IsFitting, label_of, outside_of};
+ghost use Rattle.cn_net.specs.Islands.{IsIslandLabelling, label_of, outside_of};
 ghost use Rattle.cn_net.specs.Network.{IsDevice};
 ghost use Rattle.cn_cert.specs.Certificate.{NamesRefusal};
 
@@ -18,8 +18,8 @@ pub enum CertWhy {
     Memory,
 }
 
-/// A network, its emulated devices and the labels of its islands, handed back, and why the boundary gets
-/// no certificate.
+/// A network, its emulated devices and the labels of its islands, handed back, and why the boundary
+/// gets no certificate.
 #[derive(Debug, Drop)]
 pub struct Uncertified {
     pub net: Net,
@@ -28,9 +28,9 @@ pub struct Uncertified {
     pub why: CertWhy,
 }
 
-/// The network with these emulated devices and these labels, which fit, if the boundary between them is
-/// certified. A refusal is the first one. The network, the devices and the labels are handed back with it,
-/// and for want of memory.
+/// The network with these emulated devices and these labels of islands, if the boundary between
+/// them is certified. A refusal is the first one. The network, the devices and the labels are
+/// handed back with it, and for want of memory.
 pub fn certify(
     alloc: Global,
     net: Net,
@@ -38,16 +38,18 @@ pub fn certify(
     labels: Labels,
 ) -> Result<Certified, Uncertified>
     requires devices { All (IsDevice net) emulated }
-    requires fitting { IsFitting net (outside_of emulated) (label_of labels) }
-    ensures ok { IfOk result (λ certified. certified ≡ record { net = net; emulated = emulated; labels = labels }) }
+    requires labelling { IsIslandLabelling net (outside_of emulated) (label_of labels) }
+    ensures ok { IfOk result (λ certified. certified
+        ≡ record { net = net; emulated = emulated; labels = labels }) }
     ensures certified { OnOk result (IsCertified net (outside_of emulated) (label_of labels)) }
-    ensures refused { IfErr result (λ refused. NamesRefusal net (outside_of emulated) (label_of labels) refused.why) }
+    ensures refused { IfErr result (λ refused.
+        NamesRefusal net (outside_of emulated) (label_of labels) refused.why) }
     ensures net { IfErr result (λ refused. refused.net ≡ net) }
     ensures emulated { IfErr result (λ refused. refused.emulated ≡ emulated) }
     ensures labels { IfErr result (λ refused. refused.labels ≡ labels) }
 {
     let why = match first_refusal(alloc, &net, &emulated, &labels) {
-        Ok(None) => return Ok(Certified::make(net, emulated, labels)),
+        Ok(None) => return Ok(Certified::hold(net, emulated, labels)),
         Ok(Some(refusal)) => CertWhy::Refused(refusal),
         Err(_) => CertWhy::Memory,
     };

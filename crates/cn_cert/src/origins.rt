@@ -1,23 +1,22 @@
 //! The devices that originate prefixes, and the first refusal of an island's prefixes.
 
-ghost use Rattle.std.specs.Prelude.{◌≡◌, ◌↔◌, ◌⊎◌, ◌++◌, Bool, Option, option_map, IsSome, IfOk, OnOk, MatchOption, map, flat_map};
-ghost use Rattle.std.specs.Option.{option_copied};
-ghost use Rattle.std.specs.BTreeMap.{get};
+ghost use Rattle.std.specs.Prelude.{◌≡◌, ◌↔◌, ◌⊎◌, ◌++◌, IfOk, IsSome, MatchOption, OnOk, find, map, Bool, Option};
+ghost use Rattle.std.specs.BTreeSet.{contains};
+ghost use Rattle.std.specs.List.{filter_map};
 ghost use Rattle.cn_base.specs.Cidr.{Cidr};
-ghost use Rattle.cn_base.specs.declared.ids.DeviceId.{DeviceId};
+ghost use Rattle.cn_base.specs.Table.{prefix_cmp};
+ghost use Rattle.cn_base.specs.declared.ids.DeviceId.{DeviceId as DeviceNumber};
 ghost use Rattle.cn_net.specs.Certificate.{Originates};
 ghost use Rattle.cn_net.specs.Islands.{label_of};
 ghost use Rattle.cn_net.specs.Network.{own_origin};
-ghost use Rattle.cn_cert.specs.Groups.{HasMember, member};
-ghost use Rattle.cn_cert.specs.Origins.{elsewhere_of, shared_member, shared_members};
-ghost use Rattle.cn_cert.specs.Refusal.{HasOwnPrefixes, IsFirstOfKind};
+ghost use Rattle.cn_cert.specs.Steps.{AreMembers, HasMember, HaveOwnPrefixes, IsFirstOfKind, is_elsewhere, member, shared, with_island};
 
-use crate::groups::{self, Leasts, Mark, Member};
+use crate::members::{Member, split};
 use crate::refusal::Refusal;
 use cn_base::{DeviceId, Prefix};
 use cn_net::{Labels, Net, Own};
 use std::alloc::{AllocError, Global};
-use std::collections::BTreeMap;
+use std::collections::BTreeSet;
 
 /// Puts a device at the end for each of its prefixes.
 fn add_own(
@@ -25,11 +24,12 @@ fn add_own(
     device: DeviceId,
     own: &[Own],
 ) -> Result<(), AllocError>
-    ensures { OnOk result (members.new.items ≡ members.old.items ++ map (λ o. member o.prefix device) own.now) }
+    ensures { OnOk result
+        (members.new.items ≡ members.old.items ++ map (λ o. member o.prefix device) own.now) }
 {
-    for item in own {
+    for one in own {
         members.push(Member {
-            key: item.prefix,
+            key: one.prefix,
             device,
         })?;
     }
@@ -42,7 +42,10 @@ fn add_device(
     net: &Net,
     device: DeviceId,
 ) -> Result<(), AllocError>
-    ensures { OnOk result ((p : Cidr) (d : DeviceId) → HasMember members.new.items p d ↔ (HasMember members.old.items p d ⊎ ((d ≡ device) × IsSome (own_origin net.now device p)))) }
+    ensures { OnOk result ((p : Cidr) (d : DeviceNumber)
+        → HasMember members.new.items p d
+        ↔ (HasMember members.old.items p d
+        ⊎ ((d ≡ device) × IsSome (own_origin net.now device p)))) }
 {
     match net.device(device) {
         Some(found) => add_own(members, device, found.body.own.items()),
@@ -50,112 +53,120 @@ fn add_device(
     }
 }
 
-/// The devices that originate prefixes, each in the group of the prefix.
+/// The devices that originate prefixes, each in the groups of these prefixes.
 fn originators(alloc: Global, net: &Net) -> Result<Vec<Member<Prefix>>, AllocError>
-    ensures { IfOk result (λ v. (p : Cidr) (d : DeviceId) → HasMember v.items p d ↔ Originates net.now d p) }
+    ensures { IfOk result (λ v. AreMembers prefix_cmp
+        (λ p d. Originates net.now d p) v.items) }
 {
     let mut members = Vec::new(alloc);
     for number in 0..net.count() {
         add_device(&mut members, net, DeviceId(number))?;
     }
+    members.sort_unstable();
     Ok(members)
 }
 
-/// The member in the group of its island and its key, where it is of an island and the key is shared.
-fn shared_member<K: Copy>(
-    labels: &Labels,
-    is_shared: bool,
-    member: &Member<K>,
-) -> Option<Member<(DeviceId, K)>>
-    ensures { result ≡ shared_member (label_of labels.now) is_shared member.now }
-{
-    if !is_shared {
-        return None;
-    }
-    match labels.of(member.device) {
-        Some(island) => Some(Member {
-            key: (island, member.key),
-            device: member.device,
-        }),
-        None => None,
-    }
-}
-
-/// The members that are of an island and whose key is shared, each in the group of the island and
-/// the key. The shared keys are those that the map has.
-fn shared<K: Ord + Copy>(
+/// The prefix of each member, with the island of its device, as a number.
+fn with_islands(
     alloc: Global,
-    labels: &Labels,
-    members: &[Member<K>],
-    keys: &BTreeMap<K, DeviceId>,
-) -> Result<Vec<Member<(DeviceId, K)>>, AllocError>
-    ensures { IfOk result (λ v. v.items ≡ flat_map (shared_members (label_of labels.now) (get K.cmp keys.now)) members.now) }
+    names: &Labels,
+    members: &[Member<Prefix>],
+) -> Result<Vec<(Prefix, Option<u32>)>, AllocError>
+    ensures { IfOk result (λ v. v.items ≡ map (with_island (label_of names.now)) members.now) }
 {
-    let mut shared = Vec::new(alloc);
-    for member in members {
-        let is_shared = keys.contains_key(&member.key);
-        groups::add(&mut shared, shared_member(labels, is_shared, member))?;
-    }
-    Ok(shared)
+    members
+        .iter()
+        .map(|m| (m.key, names.of(m.device).map(|island| island.0)))
+        .collect(alloc)
 }
 
-/// The first device, or the second where the first is of the island.
-fn elsewhere_of(
-    labels: &Labels,
+/// The member in the group of its island and its prefix, where it is of an island and its prefix is
+/// one of these.
+fn shared(
+    names: &Labels,
+    prefixes: &BTreeSet<Prefix>,
+    m: &Member<Prefix>,
+) -> Option<Member<(DeviceId, Prefix)>>
+    ensures { result
+        ≡ shared (label_of names.now) (contains prefix_cmp prefixes.now m.now.key) m.now }
+{
+    if prefixes.contains(&m.key) {
+        names.of(m.device).map(|island| Member {
+            key: (island, m.key),
+            device: m.device,
+        })
+    } else {
+        None
+    }
+}
+
+/// The members that are of an island and whose prefix is one of these, each in the group of its
+/// island and its prefix.
+fn all_shared(
+    alloc: Global,
+    names: &Labels,
+    prefixes: &BTreeSet<Prefix>,
+    members: &[Member<Prefix>],
+) -> Result<Vec<Member<(DeviceId, Prefix)>>, AllocError>
+    ensures { IfOk result (λ v. v.items ≡ filter_map
+        (λ m. shared (label_of names.now) (contains prefix_cmp prefixes.now m.key) m)
+        members.now) }
+{
+    members
+        .iter()
+        .filter_map(|m| shared(names, prefixes, m))
+        .collect(alloc)
+}
+
+/// Holds where a member originates this prefix, and isn't of this island.
+fn is_elsewhere(names: &Labels, island: DeviceId, prefix: Prefix, m: &Member<Prefix>) -> bool
+    ensures { result ≡ is_elsewhere (label_of names.now) island prefix m.now }
+{
+    m.key == prefix && names.of(m.device) != Some(island)
+}
+
+/// The first member that originates this prefix, and isn't of this island.
+fn first_elsewhere(
+    names: &Labels,
     island: DeviceId,
-    first: Option<&DeviceId>,
-    second: Option<&DeviceId>,
-) -> Option<DeviceId>
-    ensures { result ≡ elsewhere_of (label_of labels.now) island (option_copied first.entry) (option_copied second.entry) }
+    prefix: Prefix,
+    members: &[Member<Prefix>],
+) -> Option<Member<Prefix>>
+    ensures { result ≡ find (is_elsewhere (label_of names.now) island prefix) members.now }
 {
-    match first {
-        Some(first) => {
-            if labels.of(*first) == Some(island) {
-                second.copied()
-            } else {
-                Some(*first)
-            }
-        }
-        None => None,
-    }
+    members
+        .iter()
+        .copied()
+        .find(|m| is_elsewhere(names, island, prefix, m))
 }
 
-/// The refusal of the origins at an island and a prefix, whose least device inside is given.
-fn refusal_at(
-    labels: &Labels,
-    leasts: &Leasts<Prefix>,
-    inside: &Member<(DeviceId, Prefix)>,
-) -> Option<Refusal>
-    ensures { result ≡ option_map (λ e. Refusal.Origins inside.now.key.0 inside.now.key.1 inside.now.device e) (elsewhere_of (label_of labels.now) inside.now.key.0 (get ⟦<Prefix as Ord>⟧.cmp leasts.now.first inside.now.key.1) (get ⟦<Prefix as Ord>⟧.cmp leasts.now.second inside.now.key.1)) }
-{
-    let first = leasts.first.get(&inside.key.1);
-    let second = leasts.second.get(&inside.key.1);
-    match elsewhere_of(labels, inside.key.0, first, second) {
-        Some(elsewhere) => Some(Refusal::Origins {
-            island: inside.key.0,
-            prefix: inside.key.1,
-            inside: inside.device,
-            elsewhere,
-        }),
-        None => None,
-    }
-}
-
-/// The refusal of the lowest island that doesn't originate its prefixes alone. None comes exactly
-/// where each island does.
+/// The first refusal of origins, of the island with the lowest least device. None comes exactly
+/// where what an island originates is originated nowhere else.
 pub fn origins_refusal(
     alloc: Global,
     net: &Net,
-    labels: &Labels,
+    names: &Labels,
 ) -> Result<Option<Refusal>, AllocError>
-    ensures { (outside : DeviceId → Bool) → IfOk result (λ found. MatchOption found (HasOwnPrefixes net.now (label_of labels.now)) (IsFirstOfKind net.now outside (label_of labels.now) 2)) }
+    ensures { (outside : DeviceNumber → Bool) → IfOk result (λ found. MatchOption found
+        (HaveOwnPrefixes net.now (label_of names.now))
+        (IsFirstOfKind net.now outside (label_of names.now) 2)) }
 {
     let members = originators(alloc, net)?;
-    let leasts = groups::two_least(alloc, net, labels, Mark::Island, &members)?;
-    let shared = shared(alloc, labels, &members, &leasts.second)?;
-    let inside = groups::least(alloc, &shared)?;
-    match groups::lowest(&inside) {
-        Some(lowest) => Ok(refusal_at(labels, &leasts, &lowest)),
+    let prefixes = split(alloc, &with_islands(alloc, names, &members)?)?;
+    let mut shared = all_shared(alloc, names, &prefixes, &members)?;
+    shared.sort_unstable();
+    let inside = match shared.first() {
+        Some(inside) => inside,
+        None => return Ok(None),
+    };
+    let (island, prefix) = inside.key;
+    match first_elsewhere(names, island, prefix, &members) {
+        Some(elsewhere) => Ok(Some(Refusal::Origins {
+            island,
+            prefix,
+            inside: inside.device,
+            elsewhere: elsewhere.device,
+        })),
         None => Ok(None),
     }
 }

@@ -9,12 +9,12 @@ pub enum Side {
     Outside,
 }
 
-/// Why a boundary isn't certified. An island goes by its label.
+/// Why a boundary isn't certified. An island goes by its least device.
 ///
 /// `Facing`: on this side of the island's boundary `a` is the least device, and `b` the least whose
-/// AS number isn't that of `a`. `Origins`: `prefix` is the least that is originated both in the island
-/// and elsewhere, `inside` is the least device of the island that originates it, and `elsewhere` the
-/// least other one.
+/// AS number isn't that of `a`. `Origins`: `prefix` is the least that is originated both in the
+/// island and elsewhere, `inside` is the least device of the island that originates it, and
+/// `elsewhere` the least other one.
 #[derive(Clone, Copy, Debug, PartialEq, Eq)]
 pub enum Refusal {
     Facing {

@@ -50,10 +50,14 @@ pub record KeepsEnds (f : Session → Session) : Type 0 where
   pub from : (x : Session) → (f x).from ≡ x.from
   pub to : (x : Session) → (f x).to ≡ x.to
 
-still_session : (f : Session → Session) → KeepsEnds f → (a b : DeviceId) (x : Session) → is_session a b (f x) ≡ is_session a b x
-still_session f k a b x = ap (λ z. same_device z a && same_device (f x).to b) (k.from x) ∙ ap (λ z. same_device x.from a && same_device z b) (k.to x)
+still_session : (f : Session → Session) → KeepsEnds f → (a b : DeviceId) (x : Session)
+    → is_session a b (f x) ≡ is_session a b x
+still_session f k a b x =
+    ap (λ z. same_device z a && same_device (f x).to b) (k.from x)
+    ∙ ap (λ z. same_device x.from a && same_device z b) (k.to x)
 
-pub ends_kept : (t : Session → Bool) (f : Session → Session) → KeepsEnds f → (xs : List Session) → ends_of (at_first t f xs) ≡ ends_of xs
+pub ends_kept : (t : Session → Bool) (f : Session → Session) → KeepsEnds f → (xs : List Session)
+    → ends_of (at_first t f xs) ≡ ends_of xs
 ends_kept t f k [] = refl
 ends_kept t f k (x ∷ xs) =
     elim (t x) as (λ b. ends_of (cond b (f x ∷ xs) (x ∷ at_first t f xs)) ≡ ends_of (x ∷ xs)) [
@@ -64,60 +68,108 @@ ends_kept t f k (x ∷ xs) =
 -- ---- the session that is found
 
 -- a fact of each session that f keeps
-pub all_at_first : (P : Session → Type 0) (test : Session → Bool) (f : Session → Session) → (xs : List Session) → ((x : Session) → find test xs ≡ Some x → P x → P (f x)) → All P xs → All P (at_first test f xs)
+pub all_at_first : (P : Session → Type 0) (test : Session → Bool) (f : Session → Session)
+    → (xs : List Session) → ((x : Session) → find test xs ≡ Some x → P x → P (f x)) → All P xs
+    → All P (at_first test f xs)
 all_at_first P test f [] keep all = all
 all_at_first P test f (x ∷ xs) keep all =
     elim (test x) as (λ t. test x ≡ t → All P (cond t (f x ∷ xs) (x ∷ at_first test f xs))) [
-      | true ↦ λ e. All-cons P (f x) xs (keep x (ap (λ t. cond t (Some x) (find test xs)) e) (All-head P x xs all)) (All-tail P x xs all)
-      | false ↦ λ e. All-cons P x _ (All-head P x xs all) (all_at_first P test f xs (λ y g. keep y (ap (λ t. cond t (Some x) (find test xs)) e ∙ g)) (All-tail P x xs all))
+      | true ↦
+          λ e. All-cons P (f x) xs
+          (keep x (ap (λ t. cond t (Some x) (find test xs)) e) (All-head P x xs all))
+          (All-tail P x xs all)
+      | false ↦
+          λ e. All-cons P x _ (All-head P x xs all)
+          (all_at_first P test f xs (λ y g. keep y (ap (λ t. cond t (Some x) (find test xs)) e ∙ g))
+          (All-tail P x xs all))
     ] refl
 
 -- a fact of each session, at the one that is found
-pub found_has : (P : Session → Type 0) (test : Session → Bool) (xs : List Session) (x : Session) → All P xs → find test xs ≡ Some x → P x × (test x ≡ true)
+pub found_has : (P : Session → Type 0) (test : Session → Bool) (xs : List Session) (x : Session)
+    → All P xs → find test xs ≡ Some x → P x × (test x ≡ true)
 found_has P test [] x all e = cc
 found_has P test (y ∷ ys) x all e =
-    elim (test y) as (λ t. test y ≡ t → cond t (Some y) (find test ys) ≡ Some x → P x × (test x ≡ true)) [
-      | true ↦ λ t e. let same : y ≡ x = cc in (subst P same (All-head P y ys all), subst (λ z. test z ≡ true) same t)
+    elim (test y) as
+    (λ t. test y ≡ t → cond t (Some y) (find test ys) ≡ Some x → P x × (test x ≡ true)) [
+      | true ↦
+          λ t e.
+          let same : y ≡ x = cc in
+          (subst P same (All-head P y ys all), subst (λ z. test z ≡ true) same t)
       | false ↦ λ t e. found_has P test ys x (All-tail P y ys all) e
     ] refl e
 
 -- the one that is found passes
-pub found_is : (test : Session → Bool) (xs : List Session) (x : Session) → find test xs ≡ Some x → test x ≡ true
+pub found_is : (test : Session → Bool) (xs : List Session) (x : Session) → find test xs ≡ Some x
+    → test x ≡ true
 found_is test xs x e = (found_has (λ _. Unit {0}) test xs x (λ k d h. tt) e).1
 
 -- ---- what came in
 
 -- the route to q that came from a to d, among these sessions
 abbrev pub look : List Session → DeviceId → Cidr → DeviceId → Option Route
-look xs d q a = option_map (route_with q) (fin.get (unwrap_or (find (is_session a d) xs) (empty_session a d)).came q)
+look xs d q a =
+    option_map (route_with q)
+    (fin.get (unwrap_or (find (is_session a d) xs) (empty_session a d)).came q)
 
-look_kept : (f : Session → Session) → KeepsEnds f → (a b d : DeviceId) (q : Cidr) (xs : List Session) → ((x : Session) → find (is_session a b) xs ≡ Some x → x.to ≡ d → fin.get (f x).came q ≡ fin.get x.came q) → (c : DeviceId) → look (at_first (is_session a b) f xs) d q c ≡ look xs d q c
+look_kept : (f : Session → Session) → KeepsEnds f
+    → (a b d : DeviceId) (q : Cidr) (xs : List Session)
+    → ((x : Session) → find (is_session a b) xs ≡ Some x → x.to ≡ d
+    → fin.get (f x).came q ≡ fin.get x.came q) → (c : DeviceId)
+    → look (at_first (is_session a b) f xs) d q c ≡ look xs d q c
 look_kept f k a b d q [] keep c = refl
 look_kept f k a b d q (x ∷ xs) keep c =
-    elim (is_session a b x) as (λ t. is_session a b x ≡ t → look (cond t (f x ∷ xs) (x ∷ at_first (is_session a b) f xs)) d q c ≡ look (x ∷ xs) d q c) [
-      | true ↦ λ e. ap (λ t. option_map (route_with q) (fin.get (unwrap_or (cond t (Some (f x)) (find (is_session c d) xs)) (empty_session c d)).came q)) (still_session f k c d x)
-          ∙ elim (is_session c d x) as (λ t. is_session c d x ≡ t → option_map (route_with q) (fin.get (unwrap_or (cond t (Some (f x)) (find (is_session c d) xs)) (empty_session c d)).came q) ≡ option_map (route_with q) (fin.get (unwrap_or (cond t (Some x) (find (is_session c d) xs)) (empty_session c d)).came q)) [
-            | true ↦ λ g. ap (option_map (route_with q)) (keep x (ap (λ t. cond t (Some x) (find (is_session a b) xs)) e) (ends_are c d x g).1)
+    elim (is_session a b x) as (λ t. is_session a b x ≡ t
+    → look (cond t (f x ∷ xs) (x ∷ at_first (is_session a b) f xs)) d q c ≡ look (x ∷ xs) d q c) [
+      | true ↦
+          λ e. ap (λ t. option_map (route_with q)
+          (fin.get
+          (unwrap_or (cond t (Some (f x)) (find (is_session c d) xs)) (empty_session c d)).came q))
+          (still_session f k c d x)
+          ∙ elim (is_session c d x) as (λ t. is_session c d x ≡ t
+          → option_map (route_with q)
+          (fin.get
+          (unwrap_or (cond t (Some (f x)) (find (is_session c d) xs)) (empty_session c d)).came q)
+          ≡ option_map (route_with q)
+          (fin.get (unwrap_or (cond t (Some x) (find (is_session c d) xs)) (empty_session c d)).came
+          q)) [
+            | true ↦
+                λ g. ap (option_map (route_with q))
+                (keep x (ap (λ t. cond t (Some x) (find (is_session a b) xs)) e)
+                (ends_are c d x g).1)
             | false ↦ λ g. refl
           ] refl
-      | false ↦ λ e. elim (is_session c d x) as (λ t. option_map (route_with q) (fin.get (unwrap_or (cond t (Some x) (find (is_session c d) (at_first (is_session a b) f xs))) (empty_session c d)).came q) ≡ option_map (route_with q) (fin.get (unwrap_or (cond t (Some x) (find (is_session c d) xs)) (empty_session c d)).came q)) [
-        | true ↦ refl
-        | false ↦ look_kept f k a b d q xs (λ y g. keep y (ap (λ t. cond t (Some x) (find (is_session a b) xs)) e ∙ g)) c
-      ]
+      | false ↦
+          λ e. elim (is_session c d x) as (λ t. option_map (route_with q)
+          (fin.get (unwrap_or
+          (cond t (Some x) (find (is_session c d) (at_first (is_session a b) f xs)))
+          (empty_session c d)).came q)
+          ≡ option_map (route_with q)
+          (fin.get (unwrap_or (cond t (Some x) (find (is_session c d) xs)) (empty_session c d)).came
+          q)) [
+            | true ↦ refl
+            | false ↦
+                look_kept f k a b d q xs
+                (λ y g. keep y (ap (λ t. cond t (Some x) (find (is_session a b) xs)) e ∙ g)) c
+          ]
     ] refl
 
 -- what came in stays for q at d, where f keeps it
-pub came_kept : (s : CoreState) (f : Session → Session) → KeepsEnds f → (a b d : DeviceId) (q : Cidr) → ((x : Session) → find (is_session a b) s.sessions ≡ Some x → x.to ≡ d → fin.get (f x).came q ≡ fin.get x.came q) → came_at (with_session s a b f) d q ≡ came_at s d q
+pub came_kept : (s : CoreState) (f : Session → Session) → KeepsEnds f
+    → (a b d : DeviceId) (q : Cidr)
+    → ((x : Session) → find (is_session a b) s.sessions ≡ Some x → x.to ≡ d
+    → fin.get (f x).came q ≡ fin.get x.came q) → came_at (with_session s a b f) d q ≡ came_at s d q
 unfolding came_at session with_session
 came_kept s f k a b d q keep = λ i c. look_kept f k a b d q s.sessions keep c i
 
-pub came_of_rib : (s : CoreState) (d : DeviceId) (q : Cidr) (e : DeviceId) (x : Rib) → came_at (with_rib s e x) d q ≡ came_at s d q
+pub came_of_rib : (s : CoreState) (d : DeviceId) (q : Cidr) (e : DeviceId) (x : Rib)
+    → came_at (with_rib s e x) d q ≡ came_at s d q
 unfolding came_at session with_rib
 came_of_rib s d q e x = refl
 
 -- ---- what a device holds
 
-pub rib_of_session : (s : CoreState) (a b d : DeviceId) (f : Session → Session) → rib (with_session s a b f) d ≡ rib s d
+pub rib_of_session : (s : CoreState) (a b d : DeviceId) (f : Session → Session)
+    → rib (with_session s a b f) d ≡ rib s d
 unfolding rib with_session
 rib_of_session s a b d f = refl
 
@@ -125,26 +177,40 @@ same_number : (d e : DeviceId) → d.0 ≡ e.0 → d ≡ e
 same_number d e n = λ i. record { 0 = n i }
 
 -- what is written is at its place, and else what was there is still there
-pub rib_places : (s : CoreState) (d e : DeviceId) (x : Rib) → ((e ≡ d) × (rib (with_rib s d x) e ≡ x)) ⊎ ((rib (with_rib s d x) e ≡ rib s e) × ((e ≢ d) ⊎ (length s.ribs ≤ d.0)))
+pub rib_places : (s : CoreState) (d e : DeviceId) (x : Rib)
+    → ((e ≡ d) × (rib (with_rib s d x) e ≡ x))
+    ⊎ ((rib (with_rib s d x) e ≡ rib s e) × ((e ≢ d) ⊎ (length s.ribs ≤ d.0)))
 unfolding rib with_rib
 rib_places s d e x =
     elim (eqb_tells e.0 d.0) [
       | inl same ↦
           elim (cases_lt d.0 (length s.ribs)) [
-            | inl in' ↦ inl (same_number e d same.1, ap (λ z. get_or (set s.ribs d.0 x) z empty_rib) same.1 ∙ get_or-set_same s.ribs d.0 x empty_rib in')
+            | inl in' ↦ inl (
+              same_number e d same.1,
+              ap (λ z. get_or (set s.ribs d.0 x) z empty_rib) same.1
+                  ∙ get_or-set_same s.ribs d.0 x empty_rib in',
+            )
             | inr out ↦ inr (
-              ap (λ z. get_or (set s.ribs d.0 x) z empty_rib) same.1 ∙ get_or_past (set s.ribs d.0 x) d.0 empty_rib (rw length-set out) ∙ sym (get_or_past s.ribs d.0 empty_rib out) ∙ ap (λ z. get_or s.ribs z empty_rib) (sym same.1),
+              ap (λ z. get_or (set s.ribs d.0 x) z empty_rib) same.1
+                  ∙ get_or_past (set s.ribs d.0 x) d.0 empty_rib (rw length-set out)
+                  ∙ sym (get_or_past s.ribs d.0 empty_rib out)
+                  ∙ ap (λ z. get_or s.ribs z empty_rib) (sym same.1),
               inr out,
             )
           ]
-      | inr other ↦ inr (get_or-set_other s.ribs d.0 e.0 x empty_rib other.1, inl (λ h. other.1 (ap (λ z. z.0) h)))
+      | inr other ↦ inr (
+        get_or-set_other s.ribs d.0 e.0 x empty_rib other.1,
+        inl (λ h. other.1 (ap (λ z. z.0) h)),
+      )
     ]
 
-pub rib_same : (s : CoreState) (d : DeviceId) (x : Rib) → d.0 < length s.ribs → rib (with_rib s d x) d ≡ x
+pub rib_same : (s : CoreState) (d : DeviceId) (x : Rib) → d.0 < length s.ribs
+    → rib (with_rib s d x) d ≡ x
 unfolding rib with_rib
 rib_same s d x h = get_or-set_same s.ribs d.0 x empty_rib h
 
-pub rib_other : (s : CoreState) (d e : DeviceId) (x : Rib) → e ≢ d → rib (with_rib s d x) e ≡ rib s e
+pub rib_other : (s : CoreState) (d e : DeviceId) (x : Rib) → e ≢ d
+    → rib (with_rib s d x) e ≡ rib s e
 unfolding rib with_rib
 rib_other s d e x h = get_or-set_other s.ribs d.0 e.0 x empty_rib (λ n. h (same_number e d n))
 

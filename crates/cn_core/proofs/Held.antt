@@ -4,5 +4,6 @@ use Rattle.std.proofs.lemmas.List.{get_or_default}
 use Rattle.cn_core.specs.declared.session.Rib.{Rib}
 use Rattle.cn_core.specs.State.{empty_rib}
 
-pub rib_read : (ribs : List Rib) (i : ℕ) (x : Rib) → i < length ribs → x ≡ get_or ribs i x → x ≡ get_or ribs i empty_rib
+pub rib_read : (ribs : List Rib) (i : ℕ) (x : Rib) → i < length ribs → x ≡ get_or ribs i x
+    → x ≡ get_or ribs i empty_rib
 rib_read ribs i x h e = e ∙ get_or_default ribs i x empty_rib h

@@ -12,7 +12,7 @@ use Rattle.cn_base.specs.Table.{prefix_cmp}
 use Rattle.cn_base.specs.declared.ids.DeviceId.{DeviceId}
 use Rattle.cn_base.specs.declared.route.Choice.{Choice}
 use Rattle.cn_rib.specs.PrefixSet as prefixes
-use Rattle.cn_rib.specs.declared.attributes.Attributes.{Attributes}
+use Rattle.cn_base.specs.declared.route.Attributes.{Attributes}
 use Rattle.cn_rib.proofs.Keyed.{contains-empty, contains-remove, get_inserted, get_removed, inserted_elsewhere, not_inserted, removed_elsewhere}
 use Rattle.cn_rib.proofs.Prefixes.{same_tells}
 use Rattle.cn_net.specs.Candidates.{best_of}
@@ -39,18 +39,21 @@ use Rattle.cn_core.proofs.Opened.{kept_start}
 -- ---- messages
 
 -- a message changes its own prefix alone
-apply_other : (x : FinMap prefix_cmp Attributes) (m : Message) (q : Cidr) → same_prefix q (prefix_of m) ≡ false → fin.get (apply x m) q ≡ fin.get x q
+apply_other : (x : FinMap prefix_cmp Attributes) (m : Message) (q : Cidr)
+    → same_prefix q (prefix_of m) ≡ false → fin.get (apply x m) q ≡ fin.get x q
 apply_other x (Withdraw p) q e = removed_elsewhere x p q e
 apply_other x (Announce p h) q e = inserted_elsewhere x p h q e
 
-apply_all_push : (x : FinMap prefix_cmp Attributes) (ms : List Message) (m : Message) → apply_all x (ms ++ m ∷ []) ≡ apply (apply_all x ms) m
+apply_all_push : (x : FinMap prefix_cmp Attributes) (ms : List Message) (m : Message)
+    → apply_all x (ms ++ m ∷ []) ≡ apply (apply_all x ms) m
 apply_all_push x [] m = refl
 apply_all_push x (y ∷ ys) m = apply_all_push (apply x y) ys m
 
 IsInTransit : Session → Type 0
 IsInTransit x = apply_all x.came x.mail ≡ x.sent
 
-taken_transit : (m : Message) (rest : List Message) (x : Session) → x.mail ≡ m ∷ rest → IsInTransit x → IsInTransit (taken_in m rest x)
+taken_transit : (m : Message) (rest : List Message) (x : Session) → x.mail ≡ m ∷ rest
+    → IsInTransit x → IsInTransit (taken_in m rest x)
 unfolding IsInTransit
 taken_transit m rest x e t = ap (apply_all x.came) (sym e) ∙ t
 
@@ -75,19 +78,36 @@ record IsSound (o : Opening) (s : CoreState) : Type 0 where
 
 sound_of : (r : RecordedOpening) (s : CoreState) → IsKept r s → IsSound r.opening s
 unfolding IsInTransit
-sound_of r s k = record { net = k.net; ends = k.ends; ribs = k.ribs; transit = k.transit; few = k.few }
+sound_of r s k =
+    record { net = k.net; ends = k.ends; ribs = k.ribs; transit = k.transit; few = k.few }
 
-kept_of : (r : RecordedOpening) (s : CoreState) → IsSound r.opening s → CleanIsDecided r.opening s → SpeakersSay r s → IsKept r s
+kept_of : (r : RecordedOpening) (s : CoreState) → IsSound r.opening s → CleanIsDecided r.opening s
+    → SpeakersSay r s → IsKept r s
 unfolding IsInTransit
-kept_of r s k d say = record { net = k.net; ends = k.ends; ribs = k.ribs; transit = k.transit; few = k.few; decided = d; speakers = say }
+kept_of r s k d say = record {
+  net = k.net;
+  ends = k.ends;
+  ribs = k.ribs;
+  transit = k.transit;
+  few = k.few;
+  decided = d;
+  speakers = say;
+}
 
 -- each session keeps P where f does
-all_sessions : (P : Session → Type 0) (s : CoreState) (a b : DeviceId) (f : Session → Session) → ((x : Session) → session s a b ≡ x → P x → P (f x)) → All P s.sessions → All P (with_session s a b f).sessions
+all_sessions : (P : Session → Type 0) (s : CoreState) (a b : DeviceId) (f : Session → Session)
+    → ((x : Session) → session s a b ≡ x → P x → P (f x)) → All P s.sessions
+    → All P (with_session s a b f).sessions
 unfolding with_session session
-all_sessions P s a b f keep all = all_at_first P (is_session a b) f s.sessions (λ x e. keep x (ap (λ o. unwrap_or o (empty_session a b)) e)) all
+all_sessions P s a b f keep all =
+    all_at_first P (is_session a b) f s.sessions
+    (λ x e. keep x (ap (λ o. unwrap_or o (empty_session a b)) e)) all
 
-sound_session : (o : Opening) (s : CoreState) → IsSound o s → (a b : DeviceId) (f : Session → Session) → KeepsEnds f
-    → ((y : Session) → session s a b ≡ y → IsInTransit y → IsInTransit (f y)) → ((y : Session) → session s a b ≡ y → length y.mail ≤ 64 → length (f y).mail ≤ 64) → IsSound o (with_session s a b f)
+sound_session : (o : Opening) (s : CoreState) → IsSound o s
+    → (a b : DeviceId) (f : Session → Session) → KeepsEnds f
+    → ((y : Session) → session s a b ≡ y → IsInTransit y → IsInTransit (f y))
+    → ((y : Session) → session s a b ≡ y → length y.mail ≤ 64 → length (f y).mail ≤ 64)
+    → IsSound o (with_session s a b f)
 unfolding with_session
 sound_session o s k a b f ends transit few = record {
   net = k.net;
@@ -97,7 +117,8 @@ sound_session o s k a b f ends transit few = record {
   few = all_sessions (λ y. length y.mail ≤ 64) s a b f few k.few;
 }
 
-sound_rib : (o : Opening) (s : CoreState) → IsSound o s → (d : DeviceId) (x : Rib) → IsSound o (with_rib s d x)
+sound_rib : (o : Opening) (s : CoreState) → IsSound o s → (d : DeviceId) (x : Rib)
+    → IsSound o (with_rib s d x)
 unfolding with_rib
 sound_rib o s k d x = record {
   net = k.net;
@@ -109,35 +130,54 @@ sound_rib o s k d x = record {
 
 -- ---- the ends of the sessions are devices
 
-pub within : (o : Opening) (s : CoreState) → ends_of s.sessions ≡ links_into o → All (λ x. IsDevice o.net x.from × IsDevice o.net x.to) s.sessions
-within o s e = all_by_ends (λ (z : DeviceId × DeviceId). IsDevice o.net z.0 × IsDevice o.net z.1) s.sessions (subst (All (λ (z : DeviceId × DeviceId). IsDevice o.net z.0 × IsDevice o.net z.1)) (sym e) (links_within o))
+pub within : (o : Opening) (s : CoreState) → ends_of s.sessions ≡ links_into o
+    → All (λ x. IsDevice o.net x.from × IsDevice o.net x.to) s.sessions
+within o s e =
+    all_by_ends (λ (z : DeviceId × DeviceId). IsDevice o.net z.0 × IsDevice o.net z.1) s.sessions
+    (subst (All (λ (z : DeviceId × DeviceId). IsDevice o.net z.0 × IsDevice o.net z.1)) (sym e)
+    (links_within o))
 
 -- a session that has mail stands in the list
-has_session : (a b : DeviceId) (s : CoreState) (m : Message) (rest : List Message) → (session s a b).mail ≡ m ∷ rest → (x : Session) × (find (is_session a b) s.sessions ≡ Some x)
+has_session : (a b : DeviceId) (s : CoreState) (m : Message) (rest : List Message)
+    → (session s a b).mail ≡ m ∷ rest → (x : Session) × (find (is_session a b) s.sessions ≡ Some x)
 unfolding session
 has_session a b s m rest e =
-    elim (find (is_session a b) s.sessions) as (λ o. (unwrap_or o (empty_session a b)).mail ≡ m ∷ rest → (x : Session) × (o ≡ Some x)) [
+    elim (find (is_session a b) s.sessions) as
+    (λ o. (unwrap_or o (empty_session a b)).mail ≡ m ∷ rest → (x : Session) × (o ≡ Some x)) [
       | None ↦ λ e. cc
       | Some x ↦ λ e. (x, refl)
     ] e
 
-receiver_in_range : (r : RecordedOpening) (s : CoreState) → IsKept r s → (a b : DeviceId) (m : Message) (rest : List Message) → (session s a b).mail ≡ m ∷ rest → b.0 < length s.ribs
+receiver_in_range : (r : RecordedOpening) (s : CoreState) → IsKept r s
+    → (a b : DeviceId) (m : Message) (rest : List Message) → (session s a b).mail ≡ m ∷ rest
+    → b.0 < length s.ribs
 receiver_in_range r s k a b m rest e =
     let net = r.opening.net in
     let got = has_session a b s m rest e in
-    let facts = found_has (λ x. IsDevice net x.from × IsDevice net x.to) (is_session a b) s.sessions got.0 (within r.opening s k.ends) got.1 in
-    subst (λ l. b.0 < l) (sym k.ribs) (subst (λ (z : DeviceId). z.0 < length net.devices) (ends_are a b got.0 facts.1).1 facts.0.1)
+    let facts =
+    found_has (λ x. IsDevice net x.from × IsDevice net x.to) (is_session a b) s.sessions got.0
+    (within r.opening s k.ends) got.1 in
+    subst (λ l. b.0 < l) (sym k.ribs)
+    (subst (λ (z : DeviceId). z.0 < length net.devices) (ends_are a b got.0 facts.1).1 facts.0.1)
 
-into_emulated : (o : Opening) (s : CoreState) → ends_of s.sessions ≡ links_into o → All (λ x. holds_device o.emulated x.to ≡ true) s.sessions
+into_emulated : (o : Opening) (s : CoreState) → ends_of s.sessions ≡ links_into o
+    → All (λ x. holds_device o.emulated x.to ≡ true) s.sessions
 into_emulated o s e =
-    all_by_ends (λ (z : DeviceId × DeviceId). holds_device o.emulated z.1 ≡ true) s.sessions (subst (All (λ (z : DeviceId × DeviceId). holds_device o.emulated z.1 ≡ true)) (sym e) (links_emulated o))
+    all_by_ends (λ (z : DeviceId × DeviceId). holds_device o.emulated z.1 ≡ true) s.sessions
+    (subst (All (λ (z : DeviceId × DeviceId). holds_device o.emulated z.1 ≡ true)) (sym e)
+    (links_emulated o))
 
 -- no mail stands before a device that isn't emulated
-receiver_emulated : (r : RecordedOpening) (s : CoreState) → IsKept r s → (a b : DeviceId) (m : Message) (rest : List Message) → (session s a b).mail ≡ m ∷ rest → holds_device r.opening.emulated b ≡ true
+receiver_emulated : (r : RecordedOpening) (s : CoreState) → IsKept r s
+    → (a b : DeviceId) (m : Message) (rest : List Message) → (session s a b).mail ≡ m ∷ rest
+    → holds_device r.opening.emulated b ≡ true
 receiver_emulated r s k a b m rest e =
     let got = has_session a b s m rest e in
-    let facts = found_has (λ x. holds_device r.opening.emulated x.to ≡ true) (is_session a b) s.sessions got.0 (into_emulated r.opening s k.ends) got.1 in
-    subst (λ (z : DeviceId). holds_device r.opening.emulated z ≡ true) (ends_are a b got.0 facts.1).1 facts.0
+    let facts =
+    found_has (λ x. holds_device r.opening.emulated x.to ≡ true) (is_session a b) s.sessions got.0
+    (into_emulated r.opening s k.ends) got.1 in
+    subst (λ (z : DeviceId). holds_device r.opening.emulated z ≡ true)
+    (ends_are a b got.0 facts.1).1 facts.0
 
 -- ---- what is clean is decided
 
@@ -148,89 +188,140 @@ device_tells d e = elim (same_device d e) as (λ t. same_device d e ≡ t → (d
 ] refl
 
 -- where the device d has the best of before for q, and q was clean
-decided_at : (o : Opening) (s t : CoreState) (d : DeviceId) (q : Cidr) (x : Rib) → t.net ≡ s.net → rib t d ≡ x → came_at t d q ≡ came_at s d q → fin.get x.best q ≡ fin.get (rib s d).best q → (prefixes.contains x.dirty q ≡ false → prefixes.contains (rib s d).dirty q ≡ false) → CleanIsDecided o s → holds_device o.emulated d ≡ true → prefixes.contains (rib t d).dirty q ≡ false → held_in t d q ≡ best_of t.net (came_at t d q) d q
+decided_at : (o : Opening) (s t : CoreState) (d : DeviceId) (q : Cidr) (x : Rib) → t.net ≡ s.net
+    → rib t d ≡ x → came_at t d q ≡ came_at s d q → fin.get x.best q ≡ fin.get (rib s d).best q
+    → (prefixes.contains x.dirty q ≡ false → prefixes.contains (rib s d).dirty q ≡ false)
+    → CleanIsDecided o s → holds_device o.emulated d ≡ true
+    → prefixes.contains (rib t d).dirty q ≡ false
+    → held_in t d q ≡ best_of t.net (came_at t d q) d q
 decided_at o s t d q x net e came best clean k m c =
-    ap (λ (y : Rib). fin.get y.best q) e ∙ best ∙ k d q m (clean (ap (λ (y : Rib). prefixes.contains y.dirty q) (sym e) ∙ c))
+    ap (λ (y : Rib). fin.get y.best q) e ∙ best
+    ∙ k d q m (clean (ap (λ (y : Rib). prefixes.contains y.dirty q) (sym e) ∙ c))
     ∙ ap (λ f. best_of s.net f d q) (sym came) ∙ ap (λ n. best_of n (came_at t d q) d q) (sym net)
 
 net_of_rib : (s : CoreState) (d : DeviceId) (x : Rib) → (with_rib s d x).net ≡ s.net
 unfolding with_rib
 net_of_rib s d x = refl
 
-net_of_session : (s : CoreState) (a b : DeviceId) (f : Session → Session) → (with_session s a b f).net ≡ s.net
+net_of_session : (s : CoreState) (a b : DeviceId) (f : Session → Session)
+    → (with_session s a b f).net ≡ s.net
 unfolding with_session
 net_of_session s a b f = refl
 
-ribs_of_session : (s : CoreState) (a b : DeviceId) (f : Session → Session) → (with_session s a b f).ribs ≡ s.ribs
+ribs_of_session : (s : CoreState) (a b : DeviceId) (f : Session → Session)
+    → (with_session s a b f).ribs ≡ s.ribs
 unfolding with_session
 ribs_of_session s a b f = refl
 
 -- a session changes, and what it changes at its receiver becomes dirty
-module _ (o : Opening) (s : CoreState) (k : CleanIsDecided o s) (a b : DeviceId) (f : Session → Session) (ends : KeepsEnds f) (x : Rib) (inside : b.0 < length s.ribs) (best : x.best ≡ (rib s b).best)
-    (soils : (q : Cidr) → prefixes.contains x.dirty q ≡ false → (prefixes.contains (rib s b).dirty q ≡ false) × ((y : Session) → fin.get (f y).came q ≡ fin.get y.came q)) where
+module _ (o : Opening) (s : CoreState) (k : CleanIsDecided o s) (a b : DeviceId)
+    (f : Session → Session) (ends : KeepsEnds f) (x : Rib) (inside : b.0 < length s.ribs)
+    (best : x.best ≡ (rib s b).best)
+    (soils : (q : Cidr) → prefixes.contains x.dirty q ≡ false
+    → (prefixes.contains (rib s b).dirty q ≡ false)
+    × ((y : Session) → fin.get (f y).came q ≡ fin.get y.came q)) where
   decided_touched : CleanIsDecided o (with_rib (with_session s a b f) b x)
   decided_touched d q m c =
       let t = with_session s a b f in
       elim (device_tells d b) [
         | inl same ↦
-            let in' : b.0 < length t.ribs = subst (λ l. b.0 < length l) (sym (ribs_of_session s a b f)) inside in
-            let at_b : rib (with_rib t b x) d ≡ x = ap (rib (with_rib t b x)) same ∙ rib_same t b x in' in
+            let in' : b.0 < length t.ribs =
+            subst (λ l. b.0 < length l) (sym (ribs_of_session s a b f)) inside in
+            let at_b : rib (with_rib t b x) d ≡ x =
+            ap (rib (with_rib t b x)) same ∙ rib_same t b x in' in
             let was = soils q (ap (λ (y : Rib). prefixes.contains y.dirty q) (sym at_b) ∙ c) in
-            decided_at o s (with_rib t b x) d q x (net_of_rib t b x ∙ net_of_session s a b f) at_b (came_of_rib t d q b x ∙ came_kept s f ends a b d q (λ y is at. was.1 y))
-            (ap (λ n. fin.get n q) best ∙ ap (λ i. fin.get (rib s i).best q) (sym same)) (λ _. ap (λ i. prefixes.contains (rib s i).dirty q) same ∙ was.0) k m c
+            decided_at o s (with_rib t b x) d q x (net_of_rib t b x ∙ net_of_session s a b f) at_b
+            (came_of_rib t d q b x ∙ came_kept s f ends a b d q (λ y is at. was.1 y))
+            (ap (λ n. fin.get n q) best ∙ ap (λ i. fin.get (rib s i).best q) (sym same))
+            (λ _. ap (λ i. prefixes.contains (rib s i).dirty q) same ∙ was.0) k m c
         | inr other ↦
-            decided_at o s (with_rib t b x) d q (rib s d) (net_of_rib t b x ∙ net_of_session s a b f) (rib_other t b d x other ∙ rib_of_session s a b d f)
-            (came_of_rib t d q b x ∙ came_kept s f ends a b d q (λ y is at. absurd (other (sym at ∙ (ends_are a b y (found_is (is_session a b) s.sessions y is)).1)))) refl (λ z. z) k m c
+            decided_at o s (with_rib t b x) d q (rib s d)
+            (net_of_rib t b x ∙ net_of_session s a b f)
+            (rib_other t b d x other ∙ rib_of_session s a b d f)
+            (came_of_rib t d q b x
+            ∙ came_kept s f ends a b d q (λ y is at. absurd
+            (other (sym at ∙ (ends_are a b y (found_is (is_session a b) s.sessions y is)).1)))) refl
+            (λ z. z) k m c
       ]
 
 -- ---- speakers keep what they say
 
 -- where what an emulated device has changes, and nothing else
-say_elsewhere : (r : RecordedOpening) (s t : CoreState) (b : DeviceId) → SpeakersSay r s → holds_device r.opening.emulated b ≡ true → ((d : DeviceId) → d ≢ b → rib t d ≡ rib s d) → SpeakersSay r t
-say_elsewhere r s t b say m same d e = subst (IsSpeaking r d) (sym (same d (λ h. true≢false (sym m ∙ ap (holds_device r.opening.emulated) (sym h) ∙ e)))) (say d e)
+say_elsewhere : (r : RecordedOpening) (s t : CoreState) (b : DeviceId) → SpeakersSay r s
+    → holds_device r.opening.emulated b ≡ true → ((d : DeviceId) → d ≢ b → rib t d ≡ rib s d)
+    → SpeakersSay r t
+say_elsewhere r s t b say m same d e =
+    subst (IsSpeaking r d)
+    (sym (same d (λ h. true≢false (sym m ∙ ap (holds_device r.opening.emulated) (sym h) ∙ e))))
+    (say d e)
 
 -- a device with a dirty prefix is emulated
-dirty_emulated : (r : RecordedOpening) (s : CoreState) → SpeakersSay r s → (d : DeviceId) (p : Cidr) → prefixes.contains (rib s d).dirty p ≡ true → holds_device r.opening.emulated d ≡ true
+dirty_emulated : (r : RecordedOpening) (s : CoreState) → SpeakersSay r s → (d : DeviceId) (p : Cidr)
+    → prefixes.contains (rib s d).dirty p ≡ true → holds_device r.opening.emulated d ≡ true
 dirty_emulated r s say d p dirty =
-    elim (holds_device r.opening.emulated d) as (λ t. holds_device r.opening.emulated d ≡ t → t ≡ true) [
+    elim (holds_device r.opening.emulated d) as
+    (λ t. holds_device r.opening.emulated d ≡ t → t ≡ true) [
       | true ↦ λ t. refl
-      | false ↦ λ t. absurd (true≢false (sym dirty ∙ ap (λ x. prefixes.contains x p) (say d t).clean ∙ contains-empty p))
+      | false ↦
+          λ t. absurd (true≢false
+          (sym dirty ∙ ap (λ x. prefixes.contains x p) (say d t).clean ∙ contains-empty p))
     ] refl
 
 -- ---- a receive
 
-kept_received : (r : RecordedOpening) (s : CoreState) (k : IsKept r s) (a b : DeviceId) (m : Message) (rest : List Message) → (session s a b).mail ≡ m ∷ rest → IsKept r (with_rib (with_session s a b (taken_in m rest)) b (soiled (rib s b) (prefix_of m)))
+kept_received : (r : RecordedOpening) (s : CoreState) (k : IsKept r s) (a b : DeviceId)
+    (m : Message) (rest : List Message)
+    → (session s a b).mail ≡ m ∷ rest
+    → IsKept r (with_rib (with_session s a b (taken_in m rest)) b (soiled (rib s b) (prefix_of m)))
 kept_received r s k a b m rest e =
     let o = r.opening in
     let f = taken_in m rest in
     let x = soiled (rib s b) (prefix_of m) in
-    let mail : (y : Session) → session s a b ≡ y → y.mail ≡ m ∷ rest = λ y is. ap (λ (z : Session). z.mail) (sym is) ∙ e in
+    let mail : (y : Session) → session s a b ≡ y → y.mail ≡ m ∷ rest =
+    λ y is. ap (λ (z : Session). z.mail) (sym is) ∙ e in
     kept_of r (with_rib (with_session s a b f) b x)
-    (sound_rib o (with_session s a b f) (sound_session o s (sound_of r s k) a b f (taken_ends m rest) (λ y is t. taken_transit m rest y (mail y is) t) (λ y is t. let was : y.mail ≡ m ∷ rest = mail y is in omega (arith, ap length was, t))) b x)
-    (decided_touched o s k.decided a b f (taken_ends m rest) x (receiver_in_range r s k a b m rest e) refl
-    (λ q c. let was = not_inserted (rib s b).dirty (prefix_of m) q c in (was.1, λ y. apply_other y.came m q was.0)))
-    (say_elsewhere r s (with_rib (with_session s a b f) b x) b k.speakers (receiver_emulated r s k a b m rest e) (λ d other. rib_other (with_session s a b f) b d x other ∙ rib_of_session s a b d f))
+    (sound_rib o (with_session s a b f)
+    (sound_session o s (sound_of r s k) a b f (taken_ends m rest)
+    (λ y is t. taken_transit m rest y (mail y is) t)
+    (λ y is t. let was : y.mail ≡ m ∷ rest = mail y is in omega (arith, ap length was, t))) b x)
+    (decided_touched o s k.decided a b f (taken_ends m rest) x
+    (receiver_in_range r s k a b m rest e) refl
+    (λ q c.
+    let was = not_inserted (rib s b).dirty (prefix_of m) q c in
+    (was.1, λ y. apply_other y.came m q was.0)))
+    (say_elsewhere r s (with_rib (with_session s a b f) b x) b k.speakers
+    (receiver_emulated r s k a b m rest e)
+    (λ d other. rib_other (with_session s a b f) b d x other ∙ rib_of_session s a b d f))
 
 -- ---- a decision
 
 -- a device with a dirty prefix has a place
-pub dirty_in_range : (s : CoreState) (d : DeviceId) (p : Cidr) → prefixes.contains (rib s d).dirty p ≡ true → d.0 < length s.ribs
+pub dirty_in_range : (s : CoreState) (d : DeviceId) (p : Cidr)
+    → prefixes.contains (rib s d).dirty p ≡ true → d.0 < length s.ribs
 dirty_in_range s d p e =
     elim (cases_lt d.0 (length s.ribs)) [
       | inl in' ↦ in'
-      | inr out ↦ absurd (true≢false (sym e ∙ ap (λ (y : Rib). prefixes.contains y.dirty p) (rib_past s d out) ∙ contains-empty p))
+      | inr out ↦
+          absurd (true≢false
+          (sym e ∙ ap (λ (y : Rib). prefixes.contains y.dirty p) (rib_past s d out)
+          ∙ contains-empty p))
     ]
 
-get_put : (x : FinMap prefix_cmp Choice) (p : Cidr) (c : Option Choice) (q : Cidr) → fin.get (put_choice x p c) q ≡ cond (same_prefix q p) c (fin.get x q)
+get_put : (x : FinMap prefix_cmp Choice) (p : Cidr) (c : Option Choice) (q : Cidr)
+    → fin.get (put_choice x p c) q ≡ cond (same_prefix q p) c (fin.get x q)
 get_put x p None q = get_removed x p q
 get_put x p (Some c) q = get_inserted x p c q
 
-module _ (o : Opening) (s : CoreState) (k : CleanIsDecided o s) (d : DeviceId) (p : Cidr) (e : prefixes.contains (rib s d).dirty p ≡ true) where
+module _ (o : Opening) (s : CoreState) (k : CleanIsDecided o s) (d : DeviceId) (p : Cidr)
+    (e : prefixes.contains (rib s d).dirty p ≡ true) where
   best_at : Option Choice
   best_at = best_of s.net (came_at s d p) d p
 
   result_of : Rib
-  result_of = record { best = put_choice (rib s d).best p best_at; dirty = prefixes.remove (rib s d).dirty p }
+  result_of = record {
+    best = put_choice (rib s d).best p best_at;
+    dirty = prefixes.remove (rib s d).dirty p;
+  }
 
   decided_decided : CleanIsDecided o (with_rib s d result_of)
   unfolding result_of best_at
@@ -238,58 +329,88 @@ module _ (o : Opening) (s : CoreState) (k : CleanIsDecided o s) (d : DeviceId) (
       let net = net_of_rib s d result_of in
       elim (device_tells i d) [
         | inl same ↦
-            let at_d : rib (with_rib s d result_of) i ≡ result_of = ap (rib (with_rib s d result_of)) same ∙ rib_same s d result_of (dirty_in_range s d p e) in
+            let at_d : rib (with_rib s d result_of) i ≡ result_of =
+            ap (rib (with_rib s d result_of)) same
+            ∙ rib_same s d result_of (dirty_in_range s d p e) in
             elim (same_tells q p) [
-              | inl hit ↦ ap (λ (y : Rib). fin.get y.best q) at_d ∙ get_put (rib s d).best p best_at q ∙ ap (λ t. cond t best_at (fin.get (rib s d).best q)) hit.0
-                  ∙ ap (λ z. best_of s.net (came_at s d z) d z) (sym hit.1) ∙ ap (λ z. best_of s.net (came_at s z q) z q) (sym same) ∙ ap (λ f. best_of s.net f i q) (sym (came_of_rib s i q d result_of)) ∙ ap (λ n. best_of n (came_at (with_rib s d result_of) i q) i q) (sym net)
+              | inl hit ↦
+                  ap (λ (y : Rib). fin.get y.best q) at_d ∙ get_put (rib s d).best p best_at q
+                  ∙ ap (λ t. cond t best_at (fin.get (rib s d).best q)) hit.0
+                  ∙ ap (λ z. best_of s.net (came_at s d z) d z) (sym hit.1)
+                  ∙ ap (λ z. best_of s.net (came_at s z q) z q) (sym same)
+                  ∙ ap (λ f. best_of s.net f i q) (sym (came_of_rib s i q d result_of))
+                  ∙ ap (λ n. best_of n (came_at (with_rib s d result_of) i q) i q) (sym net)
               | inr miss ↦
-                  decided_at o s (with_rib s d result_of) i q result_of net at_d (came_of_rib s i q d result_of)
-                  (get_put (rib s d).best p best_at q ∙ ap (λ t. cond t best_at (fin.get (rib s d).best q)) miss.0 ∙ ap (λ z. fin.get (rib s z).best q) (sym same))
-                  (λ c. ap (λ z. prefixes.contains (rib s z).dirty q) same ∙ sym (ap (λ t. not t && prefixes.contains (rib s d).dirty q) miss.0) ∙ sym (contains-remove (rib s d).dirty p q) ∙ c)
+                  decided_at o s (with_rib s d result_of) i q result_of net at_d
+                  (came_of_rib s i q d result_of)
+                  (get_put (rib s d).best p best_at q
+                  ∙ ap (λ t. cond t best_at (fin.get (rib s d).best q)) miss.0
+                  ∙ ap (λ z. fin.get (rib s z).best q) (sym same))
+                  (λ c. ap (λ z. prefixes.contains (rib s z).dirty q) same
+                  ∙ sym (ap (λ t. not t && prefixes.contains (rib s d).dirty q) miss.0)
+                  ∙ sym (contains-remove (rib s d).dirty p q) ∙ c)
                   k m c
             ]
-        | inr other ↦ decided_at o s (with_rib s d result_of) i q (rib s i) net (rib_other s d i result_of other) (came_of_rib s i q d result_of) refl (λ z. z) k m c
+        | inr other ↦
+            decided_at o s (with_rib s d result_of) i q (rib s i) net
+            (rib_other s d i result_of other) (came_of_rib s i q d result_of) refl (λ z. z) k m c
       ]
 
-kept_decided : (r : RecordedOpening) (s : CoreState) (k : IsKept r s) (d : DeviceId) (p : Cidr) → prefixes.contains (rib s d).dirty p ≡ true → IsKept r (decide s d p)
+kept_decided : (r : RecordedOpening) (s : CoreState) (k : IsKept r s) (d : DeviceId) (p : Cidr)
+    → prefixes.contains (rib s d).dirty p ≡ true → IsKept r (decide s d p)
 unfolding result_of best_at
 kept_decided r s k d p e =
     let o = r.opening in
     let x = result_of o s k.decided d p e in
-    kept_of r (decide s d p) (sound_rib o s (sound_of r s k) d x) (decided_decided o s k.decided d p e)
-    (say_elsewhere r s (decide s d p) d k.speakers (dirty_emulated r s k.speakers d p e) (λ i other. rib_other s d i x other))
+    kept_of r (decide s d p) (sound_rib o s (sound_of r s k) d x)
+    (decided_decided o s k.decided d p e)
+    (say_elsewhere r s (decide s d p) d k.speakers (dirty_emulated r s k.speakers d p e)
+    (λ i other. rib_other s d i x other))
 
 -- ---- a send
 
-kept_sent : (r : RecordedOpening) (s : CoreState) → IsKept r s → (a b : DeviceId) (m : Message) → length (session s a b).mail < 64 → IsKept r (with_session s a b (put_out m))
+kept_sent : (r : RecordedOpening) (s : CoreState) → IsKept r s → (a b : DeviceId) (m : Message)
+    → length (session s a b).mail < 64 → IsKept r (with_session s a b (put_out m))
 kept_sent r s k a b m room =
     let o = r.opening in
     let f = put_out m in
     kept_of r (with_session s a b f)
-    (sound_session o s (sound_of r s k) a b f (put_out_ends m) (λ y is t. put_out_transit m y t) (λ y is t. let was : length y.mail < 64 = subst (λ z. length z.mail < 64) is room in simp length-append (omega (arith, was))))
-    (λ d q e c. decided_at o s (with_session s a b f) d q (rib s d) (net_of_session s a b f) (rib_of_session s a b d f) (came_kept s f (put_out_ends m) a b d q (λ x is at. refl)) refl (λ z. z) k.decided e c)
+    (sound_session o s (sound_of r s k) a b f (put_out_ends m) (λ y is t. put_out_transit m y t)
+    (λ y is t.
+    let was : length y.mail < 64 = subst (λ z. length z.mail < 64) is room in
+    simp length-append (omega (arith, was))))
+    (λ d q e c. decided_at o s (with_session s a b f) d q (rib s d) (net_of_session s a b f)
+    (rib_of_session s a b d f) (came_kept s f (put_out_ends m) a b d q (λ x is at. refl)) refl
+    (λ z. z) k.decided e c)
     (λ d e. subst (IsSpeaking r d) (sym (rib_of_session s a b d f)) (k.speakers d e))
 
 -- ---- every step
 
-kept_receive : (r : RecordedOpening) (s : CoreState) → IsKept r s → (a b : DeviceId) (ms : List Message) → (session s a b).mail ≡ ms → IsKept r (receive s a b ms)
+kept_receive : (r : RecordedOpening) (s : CoreState) → IsKept r s
+    → (a b : DeviceId) (ms : List Message) → (session s a b).mail ≡ ms → IsKept r (receive s a b ms)
 kept_receive r s k a b [] e = k
 kept_receive r s k a b (m ∷ rest) e = kept_received r s k a b m rest e
 
-kept_send : (r : RecordedOpening) (s : CoreState) → IsKept r s → (a b : DeviceId) (m : Option Message) → length (session s a b).mail < 64 → IsKept r (send s a b m)
+kept_send : (r : RecordedOpening) (s : CoreState) → IsKept r s
+    → (a b : DeviceId) (m : Option Message) → length (session s a b).mail < 64
+    → IsKept r (send s a b m)
 kept_send r s k a b None room = k
 kept_send r s k a b (Some m) room = kept_sent r s k a b m room
 
-pub room_to_send : (s : CoreState) (a b : DeviceId) → IsTrue (can s (Send a b)) → length (session s a b).mail < 64
+pub room_to_send : (s : CoreState) (a b : DeviceId) → IsTrue (can s (Send a b))
+    → length (session s a b).mail < 64
 room_to_send s a b h = grind (arith, nat_tests)
 
-pub kept_step : (r : RecordedOpening) (s : CoreState) → IsKept r s → (e : Step) → IsEnabled s e → IsKept r (step s e)
+pub kept_step : (r : RecordedOpening) (s : CoreState) → IsKept r s → (e : Step) → IsEnabled s e
+    → IsKept r (step s e)
 kept_step r s k (Work (Receive a b)) h = kept_receive r s k a b (session s a b).mail refl
 kept_step r s k (Work (Decide d p)) h = kept_decided r s k d p h
-kept_step r s k (Work (Send a b)) h = kept_send r s k a b (owed_by s (session s a b)) (room_to_send s a b h)
+kept_step r s k (Work (Send a b)) h =
+    kept_send r s k a b (owed_by s (session s a b)) (room_to_send s a b h)
 kept_step r s k (Mark i) h = k
 
-pub kept_run : (r : RecordedOpening) (s : CoreState) → IsKept r s → (h : List Step) → IsRunFrom s h → IsKept r (fold step s h)
+pub kept_run : (r : RecordedOpening) (s : CoreState) → IsKept r s → (h : List Step) → IsRunFrom s h
+    → IsKept r (fold step s h)
 kept_run r s k [] run = k
 kept_run r s k (e ∷ es) run = kept_run r (step s e) (kept_step r s k e run.0) es run.1
 

@@ -15,19 +15,23 @@ use Rattle.cn_core.specs.Whole.{IsWhole}
 use Rattle.cn_core.proofs.Kept.{run_holds}
 use Rattle.cn_core.proofs.Wholes.{whole_of}
 
-fold_push : (s : CoreState) (h : List Step) (e : Step) → fold step s (h ++ e ∷ []) ≡ step (fold step s h) e
+fold_push : (s : CoreState) (h : List Step) (e : Step)
+    → fold step s (h ++ e ∷ []) ≡ step (fold step s h) e
 fold_push s [] e = refl
 fold_push s (x ∷ h) e = fold_push (step s x) h e
 
-pub state_push : (r : RecordedOpening) (h : List Step) (e : Step) → state r (h ++ e ∷ []) ≡ step (state r h) e
+pub state_push : (r : RecordedOpening) (h : List Step) (e : Step)
+    → state r (h ++ e ∷ []) ≡ step (state r h) e
 unfolding state
 state_push r h e = fold_push (start r) h e
 
-run_from_push : (s : CoreState) (h : List Step) (e : Step) → IsRunFrom s h → IsEnabled (fold step s h) e → IsRunFrom s (h ++ e ∷ [])
+run_from_push : (s : CoreState) (h : List Step) (e : Step) → IsRunFrom s h
+    → IsEnabled (fold step s h) e → IsRunFrom s (h ++ e ∷ [])
 run_from_push s [] e run enabled = (enabled, tt)
 run_from_push s (x ∷ h) e run enabled = (run.0, run_from_push (step s x) h e run.1 enabled)
 
-pub run_push : (r : RecordedOpening) (h : List Step) (e : Step) → IsRun r h → IsEnabled (state r h) e → IsRun r (h ++ e ∷ [])
+pub run_push : (r : RecordedOpening) (h : List Step) (e : Step) → IsRun r h
+    → IsEnabled (state r h) e → IsRun r (h ++ e ∷ [])
 unfolding state IsRun
 run_push r h e run enabled = run_from_push (start r) h e run enabled
 
@@ -45,14 +49,16 @@ kept_of r h t is = subst (IsKept r) (sym is.tables) (run_holds r h is.run)
 pub whole_at : (r : RecordedOpening) (h : List Step) (t : CoreState) → IsState r h t → IsWhole t
 whole_at r h t is = whole_of r t is.recorded.opening.valid (kept_of r h t is)
 
-pub worked : (r : RecordedOpening) (h hs : List Step) (t u : CoreState) (e : Event) → IsState r h t → IsTrue (can t e) → u ≡ after_event t e → hs ≡ h ++ Work e ∷ [] → IsState r hs u
+pub worked : (r : RecordedOpening) (h hs : List Step) (t u : CoreState) (e : Event) → IsState r h t
+    → IsTrue (can t e) → u ≡ after_event t e → hs ≡ h ++ Work e ∷ [] → IsState r hs u
 worked r h hs t u e is enabled new grown = subst (λ l. IsState r l u) (sym grown) (record {
   recorded = is.recorded;
   run = run_push r h (Work e) is.run (subst (λ s. IsTrue (can s e)) is.tables enabled);
   tables = new ∙ ap (λ s. after_event s e) is.tables ∙ sym (state_push r h (Work e));
 })
 
-pub marked : (r : RecordedOpening) (h hs : List Step) (t : CoreState) (k : ℕ) → IsState r h t → hs ≡ h ++ Mark k ∷ [] → IsState r hs t
+pub marked : (r : RecordedOpening) (h hs : List Step) (t : CoreState) (k : ℕ) → IsState r h t
+    → hs ≡ h ++ Mark k ∷ [] → IsState r hs t
 marked r h hs t k is grown = subst (λ l. IsState r l t) (sym grown) (record {
   recorded = is.recorded;
   run = run_push r h (Mark k) is.run tt;
@@ -63,5 +69,8 @@ pub from_no_err : {T E P : Type 0} (r : Result T E) → is_err r ≡ false → O
 from_no_err (Ok x) e h = h
 from_no_err (Err y) e h = cc
 
-pub opened : (r : RecordedOpening) (h : List Step) (t : CoreState) → IsRecorded r → h ≡ [] → t ≡ start r → IsState r h t
-opened r h t recorded none first = subst (λ h. IsState r h t) (sym none) (record { recorded = recorded; run = empty_run r; tables = first ∙ sym (state_nil r) })
+pub opened : (r : RecordedOpening) (h : List Step) (t : CoreState) → IsRecorded r → h ≡ []
+    → t ≡ start r → IsState r h t
+opened r h t recorded none first =
+    subst (λ h. IsState r h t) (sym none)
+    (record { recorded = recorded; run = empty_run r; tables = first ∙ sym (state_nil r) })

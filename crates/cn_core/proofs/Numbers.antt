@@ -33,21 +33,35 @@ ids_end k n h =
 
 -- ---- a search among them
 
-pub find_passed : (t : DeviceId → Bool) (k n : ℕ) → k < n → t (record { 0 = k }) ≡ false → find t (ids (k + 1) (n - (k + 1))) ≡ find t (ids k (n - k))
-find_passed t k n h e = sym (ap (find t) (ids_next k n h) ∙ ap (λ b. cond b (Some (record { 0 = k })) (find t (ids (k + 1) (n - (k + 1))))) e)
+pub find_passed : (t : DeviceId → Bool) (k n : ℕ) → k < n → t (record { 0 = k }) ≡ false
+    → find t (ids (k + 1) (n - (k + 1))) ≡ find t (ids k (n - k))
+find_passed t k n h e =
+    sym (ap (find t) (ids_next k n h)
+    ∙ ap (λ b. cond b (Some (record { 0 = k })) (find t (ids (k + 1) (n - (k + 1))))) e)
 
-pub find_found : (t : DeviceId → Bool) (k n : ℕ) → k < n → t (record { 0 = k }) ≡ true → Some (record { 0 = k }) ≡ find t (ids k (n - k))
-find_found t k n h e = sym (ap (find t) (ids_next k n h) ∙ ap (λ b. cond b (Some (record { 0 = k })) (find t (ids (k + 1) (n - (k + 1))))) e)
+pub find_found : (t : DeviceId → Bool) (k n : ℕ) → k < n → t (record { 0 = k }) ≡ true
+    → Some (record { 0 = k }) ≡ find t (ids k (n - k))
+find_found t k n h e =
+    sym (ap (find t) (ids_next k n h)
+    ∙ ap (λ b. cond b (Some (record { 0 = k })) (find t (ids (k + 1) (n - (k + 1))))) e)
 
 pub find_ended : (t : DeviceId → Bool) (k n : ℕ) → n ≤ k → None ≡ find t (ids k (n - k))
 find_ended t k n h = sym (ap (find t) (ids_end k n h))
 
 -- ---- a list made of them
 
-pub mapped_next : {A : Type 0} (f : DeviceId → A) (old new : List A) (k n : ℕ) → k < n → new ≡ old ++ f (record { 0 = k }) ∷ [] → new ++ map f (ids (k + 1) (n - (k + 1))) ≡ old ++ map f (ids k (n - k))
+pub mapped_next : {A : Type 0} (f : DeviceId → A) (old new : List A) (k n : ℕ) → k < n
+    → new ≡ old ++ f (record { 0 = k }) ∷ []
+    → new ++ map f (ids (k + 1) (n - (k + 1))) ≡ old ++ map f (ids k (n - k))
 mapped_next f old new k n h e =
-    ap (λ xs. xs ++ map f (ids (k + 1) (n - (k + 1)))) e ∙ append_assoc old (f (record { 0 = k }) ∷ []) (map f (ids (k + 1) (n - (k + 1)))) ∙ ap (λ xs. old ++ map f xs) (sym (ids_next k n h))
+    ap (λ xs. xs ++ map f (ids (k + 1) (n - (k + 1)))) e
+    ∙ append_assoc old (f (record { 0 = k }) ∷ []) (map f (ids (k + 1) (n - (k + 1))))
+    ∙ ap (λ xs. old ++ map f xs) (sym (ids_next k n h))
 
-pub joined_next : {A : Type 0} (f : DeviceId → List A) (old new : List A) (k n : ℕ) → k < n → new ≡ old ++ f (record { 0 = k }) → new ++ flat_map f (ids (k + 1) (n - (k + 1))) ≡ old ++ flat_map f (ids k (n - k))
+pub joined_next : {A : Type 0} (f : DeviceId → List A) (old new : List A) (k n : ℕ) → k < n
+    → new ≡ old ++ f (record { 0 = k })
+    → new ++ flat_map f (ids (k + 1) (n - (k + 1))) ≡ old ++ flat_map f (ids k (n - k))
 joined_next f old new k n h e =
-    ap (λ xs. xs ++ flat_map f (ids (k + 1) (n - (k + 1)))) e ∙ append_assoc old (f (record { 0 = k })) (flat_map f (ids (k + 1) (n - (k + 1)))) ∙ ap (λ xs. old ++ flat_map f xs) (sym (ids_next k n h))
+    ap (λ xs. xs ++ flat_map f (ids (k + 1) (n - (k + 1)))) e
+    ∙ append_assoc old (f (record { 0 = k })) (flat_map f (ids (k + 1) (n - (k + 1))))
+    ∙ ap (λ xs. old ++ flat_map f xs) (sym (ids_next k n h))

@@ -39,16 +39,20 @@ use Rattle.cn_core.proofs.Owing.{owes_nothing}
 
 -- ---- what is offered keeps its prefix
 
-round_trip : (p : Cidr) (o : Option Route) → ((r : Route) → o ≡ Some r → r.prefix ≡ p) → option_map (route_with p) (option_map attributes_of o) ≡ o
+round_trip : (p : Cidr) (o : Option Route) → ((r : Route) → o ≡ Some r → r.prefix ≡ p)
+    → option_map (route_with p) (option_map attributes_of o) ≡ o
 round_trip p None h = refl
-round_trip p (Some r) h = λ i. Some (record { prefix = sym (h r refl) i; path = r.path; origin = r.origin })
+round_trip p (Some r) h =
+    λ i. Some (record { prefix = sym (h r refl) i; path = r.path; origin = r.origin })
 
-offer_keeps : (net : Network) (a b : DeviceId) (p : Cidr) (held : Option Choice) (r : Route) → offer_of net a b p held ≡ Some r → r.prefix ≡ p
+offer_keeps : (net : Network) (a b : DeviceId) (p : Cidr) (held : Option Choice) (r : Route)
+    → offer_of net a b p held ≡ Some r → r.prefix ≡ p
 offer_keeps net a b p held r e =
     let o = offer_of-gives net a b p held r e in
     (offer-gives net a b (route_of p o.source) r o.offered).prefix
 
-offered_back : (net : Network) (a b : DeviceId) (p : Cidr) (held : Option Choice) → option_map (route_with p) (offered net a b p held) ≡ offer_of net a b p held
+offered_back : (net : Network) (a b : DeviceId) (p : Cidr) (held : Option Choice)
+    → option_map (route_with p) (offered net a b p held) ≡ offer_of net a b p held
 unfolding offered
 offered_back net a b p held = round_trip p (offer_of net a b p held) (offer_keeps net a b p held)
 
@@ -58,13 +62,17 @@ up_is_linked : (o : Option Bool) → unwrap_or o false ≡ true → is_some o �
 up_is_linked None e = absurd (true≢false (sym e))
 up_is_linked (Some b) e = refl
 
-offer_needs_link : (net : Network) (a b : DeviceId) (p : Cidr) (held : Option Choice) (r : Route) → offer_of net a b p held ≡ Some r → is_linked net a b ≡ true
+offer_needs_link : (net : Network) (a b : DeviceId) (p : Cidr) (held : Option Choice) (r : Route)
+    → offer_of net a b p held ≡ Some r → is_linked net a b ≡ true
 offer_needs_link net a b p held r e =
     let o = offer_of-gives net a b p held r e in
     up_is_linked (link_between net a b) (offer-gives net a b (route_of p o.source) r o.offered).up
 
-no_session_no_offer : (r : RecordedOpening) (s : CoreState) → IsKept r s → IsValid r.opening.net → (a d : DeviceId) (p : Cidr) (held : Option Choice) → holds_device r.opening.emulated d ≡ true → find (is_session a d) s.sessions ≡ None → offer_of r.opening.net a d p held ≡ None
-no_session_no_offer r s k valid a d p held m none = by_offer (offer_of r.opening.net a d p held) refl
+no_session_no_offer : (r : RecordedOpening) (s : CoreState) → IsKept r s → IsValid r.opening.net
+    → (a d : DeviceId) (p : Cidr) (held : Option Choice) → holds_device r.opening.emulated d ≡ true
+    → find (is_session a d) s.sessions ≡ None → offer_of r.opening.net a d p held ≡ None
+no_session_no_offer r s k valid a d p held m none =
+    by_offer (offer_of r.opening.net a d p held) refl
   where
     o : Opening
     o = r.opening
@@ -74,36 +82,61 @@ no_session_no_offer r s k valid a d p held m none = by_offer (offer_of r.opening
     by_offer (Some route) e =
         let linked = offer_needs_link o.net a d p held route e in
         let ends = linked_devices o.net a d valid linked in
-        absurd (true≢false (sym (linked_stands o a d ends.0 ends.1 linked m) ∙ ap (λ es. list_any (joins_ends a d) es) (sym k.ends) ∙ sym (found_by_ends a d s.sessions) ∙ ap is_some none))
+        absurd (true≢false
+        (sym (linked_stands o a d ends.0 ends.1 linked m)
+        ∙ ap (λ es. list_any (joins_ends a d) es) (sym k.ends) ∙ sym (found_by_ends a d s.sessions)
+        ∙ ap is_some none))
 
 -- where nothing is under way and nothing is owed, what came in is what is offered
-came_is_offered : (r : RecordedOpening) (s : CoreState) → IsKept r s → IsValid r.opening.net → All (λ x. x.mail ≡ []) s.sessions → All (λ x. owed_by s x ≡ None) s.sessions → (a d : DeviceId) (p : Cidr) → holds_device r.opening.emulated d ≡ true → came_at s d p a ≡ offers_to r.opening.net (held_in s) d p a
+came_is_offered : (r : RecordedOpening) (s : CoreState) → IsKept r s → IsValid r.opening.net
+    → All (λ x. x.mail ≡ []) s.sessions → All (λ x. owed_by s x ≡ None) s.sessions
+    → (a d : DeviceId) (p : Cidr) → holds_device r.opening.emulated d ≡ true
+    → came_at s d p a ≡ offers_to r.opening.net (held_in s) d p a
 unfolding came_at session
 came_is_offered r s k valid no_mail none_owed a d p m =
     let o = r.opening in
-    elim (find (is_session a d) s.sessions) as (λ x. find (is_session a d) s.sessions ≡ x → option_map (route_with p) (fin.get (unwrap_or x (empty_session a d)).came p) ≡ offer_of o.net a d p (held_in s a p)) [
-      | None ↦ λ e. ap (option_map (route_with p)) (get_empty p) ∙ sym (no_session_no_offer r s k valid a d p (held_in s a p) m e)
+    elim (find (is_session a d) s.sessions) as (λ x. find (is_session a d) s.sessions ≡ x
+    → option_map (route_with p) (fin.get (unwrap_or x (empty_session a d)).came p)
+    ≡ offer_of o.net a d p (held_in s a p)) [
+      | None ↦
+          λ e. ap (option_map (route_with p)) (get_empty p)
+          ∙ sym (no_session_no_offer r s k valid a d p (held_in s a p) m e)
       | Some x ↦ λ e.
-          let transit = found_has (λ (y : Session). apply_all y.came y.mail ≡ y.sent) (is_session a d) s.sessions x k.transit e in
-          let empty = found_has (λ (y : Session). y.mail ≡ []) (is_session a d) s.sessions x no_mail e in
-          let nothing = found_has (λ (y : Session). owed_by s y ≡ None) (is_session a d) s.sessions x none_owed e in
+          let transit =
+          found_has (λ (y : Session). apply_all y.came y.mail ≡ y.sent) (is_session a d) s.sessions
+          x k.transit e in
+          let empty =
+          found_has (λ (y : Session). y.mail ≡ []) (is_session a d) s.sessions x no_mail e in
+          let nothing =
+          found_has (λ (y : Session). owed_by s y ≡ None) (is_session a d) s.sessions x none_owed
+          e in
           let ends = ends_are a d x transit.1 in
           let arrived : x.came ≡ x.sent = ap (apply_all x.came) (sym empty.0) ∙ transit.0 in
           let sent : fin.get x.sent p ≡ offered o.net a d p (held_in s a p) =
-          owes_nothing s.net x.from x.to x.sent (rib s x.from).best nothing.0 p ∙ (λ i. wanted (k.net i) (ends.0 i) (ends.1 i) (rib s (ends.0 i)).best p) in
-          ap (λ n. option_map (route_with p) (fin.get n p)) arrived ∙ ap (option_map (route_with p)) sent ∙ offered_back o.net a d p (held_in s a p)
+          owes_nothing s.net x.from x.to x.sent (rib s x.from).best nothing.0 p
+          ∙ (λ i. wanted (k.net i) (ends.0 i) (ends.1 i) (rib s (ends.0 i)).best p) in
+          ap (λ n. option_map (route_with p) (fin.get n p)) arrived
+          ∙ ap (option_map (route_with p)) sent ∙ offered_back o.net a d p (held_in s a p)
     ] refl
 
 -- in a quiet state the emulated devices hold their best, and the others hold what they say
-quiet_inside : (r : RecordedOpening) (s : CoreState) → IsKept r s → IsValid r.opening.net → IsQuiet s → IsStableInside r.opening.net (outside_of r.opening.emulated) (said_by r.opening r.rows) (held_in s)
+quiet_inside : (r : RecordedOpening) (s : CoreState) → IsKept r s → IsValid r.opening.net
+    → IsQuiet s
+    → IsStableInside r.opening.net (outside_of r.opening.emulated) (said_by r.opening r.rows)
+    (held_in s)
 quiet_inside r s k valid quiet = record {
   best = λ d p h f.
       let net = r.opening.net in
-      let m : holds_device r.opening.emulated d ≡ true = not-false (holds_device r.opening.emulated d) f in
-      let clean : prefixes.contains (rib s d).dirty p ≡ false = ap (λ x. prefixes.contains x p) (quiet.clean d) ∙ contains-empty p in
-      let came : came_at s d p ≡ offers_to net (held_in s) d p = λ i a. came_is_offered r s k valid quiet.mail quiet.owed a d p m i in
-      let held : held_in s d p ≡ best_of net (offers_to net (held_in s) d p) d p = k.decided d p m clean ∙ (λ i. best_of (k.net i) (came i) d p) in
-      subst (IsBest net (offers_to net (held_in s) d p) d p) (sym held) (best_of_is_best net (offers_to net (held_in s) d p) d p);
+      let m : holds_device r.opening.emulated d ≡ true =
+      not-false (holds_device r.opening.emulated d) f in
+      let clean : prefixes.contains (rib s d).dirty p ≡ false =
+      ap (λ x. prefixes.contains x p) (quiet.clean d) ∙ contains-empty p in
+      let came : came_at s d p ≡ offers_to net (held_in s) d p =
+      λ i a. came_is_offered r s k valid quiet.mail quiet.owed a d p m i in
+      let held : held_in s d p ≡ best_of net (offers_to net (held_in s) d p) d p =
+      k.decided d p m clean ∙ (λ i. best_of (k.net i) (came i) d p) in
+      subst (IsBest net (offers_to net (held_in s) d p) d p) (sym held)
+      (best_of_is_best net (offers_to net (held_in s) d p) d p);
   heard = λ d p h f. (k.speakers d (not-true (holds_device r.opening.emulated d) f)).says p;
 }
 
@@ -112,11 +145,21 @@ pub whole_state : (r : RecordedOpening) → IsRecorded r → HasOneStableState r
 whole_state r is = has_one_state r.opening.net (distinct_ids r.opening.net is.opening.valid)
 
 -- and the emulated devices hold what they hold in it
-pub quiet_shows : (r : RecordedOpening) (s : CoreState) (whole : Assignment) → IsRecorded r → IsKept r s → IsQuiet s → IsStable r.opening.net whole → AgreeInside r.opening.net (outside_of r.opening.emulated) (held_in s) whole
+pub quiet_shows : (r : RecordedOpening) (s : CoreState) (whole : Assignment) → IsRecorded r
+    → IsKept r s → IsQuiet s → IsStable r.opening.net whole
+    → AgreeInside r.opening.net (outside_of r.opening.emulated) (held_in s) whole
 quiet_shows r s whole is k quiet stable =
     let o = r.opening in
-    let bounded : IsBounded o.net (outside_of o.emulated) (label_of o.labels) whole = record { valid = is.opening.valid; fitting = is.opening.fitting; certified = is.opening.certified; stable = stable } in
-    quiet_agrees o.net (outside_of o.emulated) (label_of o.labels) (said_by o r.rows) (held_in s) whole bounded is.sound (says_own o.net (label_of o.labels) r.rows) (quiet_inside r s k is.opening.valid quiet)
+    let bounded : IsBounded o.net (outside_of o.emulated) (label_of o.labels) whole = record {
+      valid = is.opening.valid;
+      labelling = is.opening.labelling;
+      certified = is.opening.certified;
+      stable = stable;
+    } in
+    quiet_agrees o.net (outside_of o.emulated) (label_of o.labels) (said_by o r.rows) (held_in s)
+    whole bounded is.sound (says_own o.net (label_of o.labels) r.rows)
+    (quiet_inside r s k is.opening.valid quiet)
 
 pub quiet_holds : QuietLaw
-quiet_holds r h whole is run quiet stable = quiet_shows r (state r h) whole is (run_holds r h run) quiet stable
+quiet_holds r h whole is run quiet stable =
+    quiet_shows r (state r h) whole is (run_holds r h run) quiet stable

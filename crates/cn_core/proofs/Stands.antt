@@ -26,7 +26,8 @@ or_parts : (a b : Bool) → (a || b) ≡ false → (a ≡ false) × (b ≡ false
 or_parts true b e = absurd (true≢false e)
 or_parts false b e = (refl, e)
 
-quiet_standing : (o : Option Session) (d : Option DeviceId) → standing_of o d ≡ stands.Quiet → (o ≡ None) × (d ≡ None)
+quiet_standing : (o : Option Session) (d : Option DeviceId) → standing_of o d ≡ stands.Quiet
+    → (o ≡ None) × (d ≡ None)
 quiet_standing (Some x) d e = cc
 quiet_standing None (Some d) e = cc
 quiet_standing None None e = (refl, refl)
@@ -40,33 +41,44 @@ no_messages (m ∷ ms) e = absurd (true≢false (sym some_there ∙ e))
 
 -- what `owes_from` says at a session of its own device
 owed_none : (s : CoreState) (x : Session) → owes_from s x.from x ≡ false → owed_by s x ≡ None
-owed_none s x e = none_if (owed_by s x) (sym (ap (λ b. b && is_some (owed_by s x)) (itself x.from)) ∙ e)
+owed_none s x e =
+    none_if (owed_by s x) (sym (ap (λ b. b && is_some (owed_by s x)) (itself x.from)) ∙ e)
 
-idle_at : (s : CoreState) (d : DeviceId) → first_pending s ≡ None → IsDevice s.net d → is_pending s d ≡ false
-idle_at s d e h = at_member (λ z. is_pending s z ≡ false) (device_ids s.net) d (none_passes (is_pending s) (device_ids s.net) e) (all_devices s.net d h)
+idle_at : (s : CoreState) (d : DeviceId) → first_pending s ≡ None → IsDevice s.net d
+    → is_pending s d ≡ false
+idle_at s d e h =
+    at_member (λ z. is_pending s z ≡ false) (device_ids s.net) d
+    (none_passes (is_pending s) (device_ids s.net) e) (all_devices s.net d h)
 
-clean_at : (r : RecordedOpening) (s : CoreState) → IsKept r s → first_pending s ≡ None → (d : DeviceId) → (rib s d).dirty ≡ prefixes.empty
+clean_at : (r : RecordedOpening) (s : CoreState) → IsKept r s → first_pending s ≡ None
+    → (d : DeviceId) → (rib s d).dirty ≡ prefixes.empty
 clean_at r s k e d =
     elim (cases_lt d.0 (length s.ribs)) [
       | inl in' ↦
-          let h : IsDevice s.net d = subst (λ n. d.0 < length n.devices) (sym k.net) (subst (λ l. d.0 < l) k.ribs in') in
+          let h : IsDevice s.net d =
+          subst (λ n. d.0 < length n.devices) (sym k.net) (subst (λ l. d.0 < l) k.ribs in') in
           no_least (rib s d).dirty (none_if _ (or_parts _ _ (idle_at s d e h)).0)
       | inr out ↦ ap (λ (x : Rib). x.dirty) (rib_past s d out)
     ]
 
-pub stands_quiet : (r : RecordedOpening) (s : CoreState) → IsKept r s → find has_mail s.sessions ≡ None → first_pending s ≡ None → IsQuiet s
+pub stands_quiet : (r : RecordedOpening) (s : CoreState) → IsKept r s
+    → find has_mail s.sessions ≡ None → first_pending s ≡ None → IsQuiet s
 stands_quiet r s k m e = record {
   mail = λ i x lt. no_messages _ (none_passes has_mail s.sessions m i x lt);
   clean = clean_at r s k e;
   owed = λ i x lt.
       let y = slice_index_or s.sessions i x in
-      let h : IsDevice s.net y.from = subst (λ n. y.from.0 < length n.devices) (sym k.net) (within r.opening s k.ends i x lt).0 in
+      let h : IsDevice s.net y.from =
+      subst (λ n. y.from.0 < length n.devices) (sym k.net) (within r.opening s k.ends i x lt).0 in
       let idle = (or_parts _ _ (idle_at s y.from e h)).1 in
       owed_none s y (none_passes (owes_from s y.from) s.sessions (none_if _ idle) i x lt);
 }
 
 not_owing : (s : CoreState) → IsQuiet s → (d : DeviceId) → find (owes_from s d) s.sessions ≡ None
-not_owing s q d = nothing_found (owes_from s d) s.sessions (λ i x lt. ap (λ o. same_device (slice_index_or s.sessions i x).from d && is_some o) (q.owed i x lt) ∙ and_false (same_device (slice_index_or s.sessions i x).from d))
+not_owing s q d =
+    nothing_found (owes_from s d) s.sessions (λ i x lt. ap
+    (λ o. same_device (slice_index_or s.sessions i x).from d && is_some o) (q.owed i x lt)
+    ∙ and_false (same_device (slice_index_or s.sessions i x).from d))
   where
     and_false : (b : Bool) → (b && false) ≡ false
     and_false true = refl
@@ -75,17 +87,23 @@ not_owing s q d = nothing_found (owes_from s d) s.sessions (λ i x lt. ap (λ o.
 not_pending : (s : CoreState) → IsQuiet s → (d : DeviceId) → is_pending s d ≡ false
 not_pending s q d =
     ap (λ x. is_some (prefixes.least x) || is_some (find (owes_from s d) s.sessions)) (q.clean d)
-    ∙ ap (λ x. is_some x || is_some (find (owes_from s d) s.sessions)) least_of_empty ∙ ap is_some (not_owing s q d)
+    ∙ ap (λ x. is_some x || is_some (find (owes_from s d) s.sessions)) least_of_empty
+    ∙ ap is_some (not_owing s q d)
 
-pub quiet_stands : (s : CoreState) → IsQuiet s → (find has_mail s.sessions ≡ None) × (first_pending s ≡ None)
+pub quiet_stands : (s : CoreState) → IsQuiet s
+    → (find has_mail s.sessions ≡ None) × (first_pending s ≡ None)
 quiet_stands s q = (
   nothing_found has_mail s.sessions (λ i x lt. ap (λ ms. nat_lt 0 (length ms)) (q.mail i x lt)),
-  nothing_found (is_pending s) (device_ids s.net) (λ i d lt. not_pending s q (slice_index_or (device_ids s.net) i d)),
+  nothing_found (is_pending s) (device_ids s.net)
+      (λ i d lt. not_pending s q (slice_index_or (device_ids s.net) i d)),
 )
 
-pub standing_is : (r : RecordedOpening) (s : CoreState) → IsKept r s → (standing s ≡ stands.Quiet) ↔ IsQuiet s
+pub standing_is : (r : RecordedOpening) (s : CoreState) → IsKept r s
+    → (standing s ≡ stands.Quiet) ↔ IsQuiet s
 standing_is r s k = (
-  λ e. let parts = quiet_standing (find has_mail s.sessions) (first_pending s) e in stands_quiet r s k parts.0 parts.1,
+  λ e.
+      let parts = quiet_standing (find has_mail s.sessions) (first_pending s) e in
+      stands_quiet r s k parts.0 parts.1,
   λ q. let parts = quiet_stands s q in λ i. standing_of (parts.0 i) (parts.1 i),
 )
 

@@ -20,31 +20,55 @@ use Rattle.cn_core.specs.declared.pull.DeviceTable.{DeviceTable}
 use Rattle.cn_core.specs.Rows.{table_row}
 use Rattle.cn_core.specs.Tables.{AreTables, IsTableOf}
 
-choice_found : (rows : List TableRow) (p : Cidr) → choice_for rows p ≡ fin.find prefix_cmp p (map (λ r. (r.prefix, r.choice)) rows)
+choice_found : (rows : List TableRow) (p : Cidr)
+    → choice_for rows p ≡ fin.find prefix_cmp p (map (λ r. (r.prefix, r.choice)) rows)
 choice_found [] p = refl
 choice_found (r ∷ rows) p =
-    let test : same_prefix r.prefix p ≡ eq_by_cmp prefix_cmp p r.prefix = same_flip r.prefix p ∙ sym (tied_is_same p r.prefix) in
-    ap (λ b. option_map (λ (x : TableRow). x.choice) (cond b (Some r) (find (λ x. same_prefix x.prefix p) rows))) test
-    ∙ elim (eq_by_cmp prefix_cmp p r.prefix) as (λ b. option_map (λ (x : TableRow). x.choice) (cond b (Some r) (find (λ x. same_prefix x.prefix p) rows)) ≡ cond b (Some r.choice) (fin.find prefix_cmp p (map (λ r. (r.prefix, r.choice)) rows))) [ true ↦ refl | false ↦ choice_found rows p ]
+    let test : same_prefix r.prefix p ≡ eq_by_cmp prefix_cmp p r.prefix =
+    same_flip r.prefix p ∙ sym (tied_is_same p r.prefix) in
+    ap (λ b. option_map (λ (x : TableRow). x.choice)
+    (cond b (Some r) (find (λ x. same_prefix x.prefix p) rows))) test
+    ∙ elim (eq_by_cmp prefix_cmp p r.prefix) as (λ b. option_map (λ (x : TableRow). x.choice)
+    (cond b (Some r) (find (λ x. same_prefix x.prefix p) rows))
+    ≡ cond b (Some r.choice) (fin.find prefix_cmp p (map (λ r. (r.prefix, r.choice)) rows))) [
+      | true ↦ refl
+      | false ↦ choice_found rows p
+    ]
 
-pairs_of : (rows : List (Row Choice)) → map {B = Cidr × Choice} (λ r. (r.prefix, r.choice)) (map table_row rows) ≡ map {B = Cidr × Choice} (λ r. (r.prefix, r.value)) rows
+pairs_of : (rows : List (Row Choice))
+    → map {B = Cidr × Choice} (λ r. (r.prefix, r.choice)) (map table_row rows)
+    ≡ map {B = Cidr × Choice} (λ r. (r.prefix, r.value)) rows
 pairs_of [] = refl
 pairs_of (r ∷ rows) = ap (λ es. (r.prefix, r.value) ∷ es) (pairs_of rows)
 
-module _ (m : FinMap prefix_cmp Choice) (rows : List (Row Choice)) (is : map (λ r. (r.prefix, r.value)) rows ≡ fin.entries m) where
+module _ (m : FinMap prefix_cmp Choice) (rows : List (Row Choice))
+    (is : map (λ r. (r.prefix, r.value)) rows ≡ fin.entries m) where
   pub table_ascends : AscendsByPrefix (map table_row rows)
-  table_ascends = rows_ascend (λ (r : TableRow). r.prefix) (map table_row rows) m (keys_of_rows (λ (r : TableRow). r.prefix) (λ r. r.choice) (map table_row rows) m (pairs_of rows ∙ is))
+  table_ascends =
+      rows_ascend (λ (r : TableRow). r.prefix) (map table_row rows) m
+      (keys_of_rows (λ (r : TableRow). r.prefix) (λ r. r.choice) (map table_row rows) m
+      (pairs_of rows ∙ is))
 
   pub table_exact : (p : Cidr) → choice_for (map table_row rows) p ≡ fin.get m p
-  table_exact p = choice_found (map table_row rows) p ∙ ap (fin.find prefix_cmp p) (pairs_of rows ∙ is) ∙ sym (fin.get-entries m p)
+  table_exact p =
+      choice_found (map table_row rows) p ∙ ap (fin.find prefix_cmp p) (pairs_of rows ∙ is)
+      ∙ sym (fin.get-entries m p)
 
 -- ---- one table after another
 
 pub tables_none : (held : Assignment) → AreTables [] held []
 tables_none held = record { each = refl; exactly = All-nil (IsTableOf held) }
 
-pub tables_more : (devices : List DeviceId) (held : Assignment) (tables : List DeviceTable) (i : ℕ) (d : DeviceId) (t : DeviceTable) → i < length devices → d ≡ get_or devices i d → t.device ≡ d → AscendsByPrefix t.table → ((p : Cidr) → choice_for t.table p ≡ held t.device p) → AreTables (take i devices) held tables → AreTables (take (i + 1) devices) held (tables ++ t ∷ [])
+pub tables_more : (devices : List DeviceId) (held : Assignment) (tables : List DeviceTable) (i : ℕ)
+    (d : DeviceId) (t : DeviceTable)
+    → i < length devices → d ≡ get_or devices i d → t.device ≡ d → AscendsByPrefix t.table
+    → ((p : Cidr) → choice_for t.table p ≡ held t.device p) → AreTables (take i devices) held tables
+    → AreTables (take (i + 1) devices) held (tables ++ t ∷ [])
 tables_more devices held tables i d t inside is same ascending exact so = record {
-  each = map-append (λ (x : DeviceTable). x.device) tables (t ∷ []) ∙ (λ j. so.each j ++ (same ∙ is) j ∷ []) ∙ sym (take_more devices i d inside);
-  exactly = All-push (IsTableOf held) tables t so.exactly (record { ascending = ascending; exactly = exact });
+  each =
+      map-append (λ (x : DeviceTable). x.device) tables (t ∷ [])
+      ∙ (λ j. so.each j ++ (same ∙ is) j ∷ []) ∙ sym (take_more devices i d inside);
+  exactly =
+      All-push (IsTableOf held) tables t so.exactly
+      (record { ascending = ascending; exactly = exact });
 }

@@ -10,4 +10,9 @@ use Rattle.cn_core.specs.declared.session.Rib.{Rib}
 use Rattle.cn_core.specs.declared.session.Session.{Session}
 
 abbrev pub state_code : Coded CoreState
-state_code = code_by (Network × (List Session × List Rib)) (coded× a_net.the_row.coded (coded× (coded_list a_session.the_row.coded) (coded_list a_rib.the_row.coded))) (λ s. (s.net, (s.sessions, s.ribs))) (λ p. record { net = p.0; sessions = p.1.0; ribs = p.1.1 }) (λ _. refl)
+state_code =
+    code_by (Network × (List Session × List Rib))
+    (coded× a_net.the_row.coded
+    (coded× (coded_list a_session.the_row.coded) (coded_list a_rib.the_row.coded)))
+    (λ s. (s.net, (s.sessions, s.ribs))) (λ p. record { net = p.0; sessions = p.1.0; ribs = p.1.1 })
+    (λ _. refl)

@@ -9,7 +9,7 @@ use Rattle.cn_base.specs.declared.ids.DeviceId.{DeviceId}
 use Rattle.cn_base.specs.declared.route.Choice.{Choice}
 use Rattle.cn_base.specs.declared.standing.Standing.TheVariants as stands
 use Rattle.cn_rib.specs.PrefixSet as set
-use Rattle.cn_rib.specs.declared.attributes.Attributes.{Attributes}
+use Rattle.cn_base.specs.declared.route.Attributes.{Attributes}
 use Rattle.cn_net.specs.Candidates.{best_of}
 use Rattle.cn_net.specs.Boundary.{AgreeInside}
 use Rattle.cn_net.specs.Islands.{holds_device, outside_of}
@@ -42,13 +42,16 @@ links_into o = flat_map (λ a. map (λ b. (a, b)) (receivers o a)) (device_ids o
 abbrev pub NetFollowsJournal : RecordedOpening → CoreState → Type 0
 NetFollowsJournal r s = s.net ≡ r.opening.net
 
--- in each session, the messages of the mailbox, applied in order to what came in, give what was sent
+-- in each session, the messages of the mailbox, applied in order to what came in, give what was
+-- sent
 abbrev pub MailBringsSent : CoreState → Type 0
 MailBringsSent s = All (λ x. apply_all x.came x.mail ≡ x.sent) s.sessions
 
 -- an emulated device holds for each clean prefix what a decision would give
 abbrev pub CleanIsDecided : Opening → CoreState → Type 0
-CleanIsDecided o s = (d : DeviceId) (p : Cidr) → holds_device o.emulated d ≡ true → set.contains (rib s d).dirty p ≡ false → held_in s d p ≡ best_of s.net (came_at s d p) d p
+CleanIsDecided o s =
+    (d : DeviceId) (p : Cidr) → holds_device o.emulated d ≡ true
+    → set.contains (rib s d).dirty p ≡ false → held_in s d p ≡ best_of s.net (came_at s d p) d p
 
 -- what a speaker has: it holds what it says and nothing else, and nothing is dirty
 pub record IsSpeaking (r : RecordedOpening) (d : DeviceId) (x : Rib) : Type 0 where
@@ -57,7 +60,8 @@ pub record IsSpeaking (r : RecordedOpening) (d : DeviceId) (x : Rib) : Type 0 wh
 
 -- each device that isn't emulated says what is recorded of it, whatever happens
 abbrev pub SpeakersSay : RecordedOpening → CoreState → Type 0
-SpeakersSay r s = (d : DeviceId) → holds_device r.opening.emulated d ≡ false → IsSpeaking r d (rib s d)
+SpeakersSay r s =
+    (d : DeviceId) → holds_device r.opening.emulated d ≡ false → IsSpeaking r d (rib s d)
 
 -- what every step keeps
 pub record IsKept (r : RecordedOpening) (s : CoreState) : Type 0 where
@@ -73,22 +77,31 @@ pub record IsKept (r : RecordedOpening) (s : CoreState) : Type 0 where
 abbrev pub RunLaw : Type 0
 RunLaw = (r : RecordedOpening) (h : List Step) → IsRun r h → IsKept r (state r h)
 
--- Behind a certified boundary with sound records, the emulated devices hold in a quiet state what they hold in a stable state
--- of the whole network, in which no device is a speaker.
+-- Behind a certified boundary with sound records, the emulated devices hold in a quiet state what
+-- they hold in a stable state of the whole network, in which no device is a speaker.
 abbrev pub QuietLaw : Type 0
 QuietLaw =
-    (r : RecordedOpening) (h : List Step) (whole : Assignment) → IsRecorded r → IsRun r h → IsQuiet (state r h) → IsStable r.opening.net whole → AgreeInside r.opening.net (outside_of r.opening.emulated) (held_in (state r h)) whole
+    (r : RecordedOpening) (h : List Step) (whole : Assignment) → IsRecorded r → IsRun r h
+    → IsQuiet (state r h) → IsStable r.opening.net whole
+    → AgreeInside r.opening.net (outside_of r.opening.emulated) (held_in (state r h)) whole
 
 -- the standing is Quiet exactly where the state is quiet
 abbrev pub StandingLaw : Type 0
-StandingLaw = (r : RecordedOpening) (h : List Step) → IsRun r h → (standing (state r h) ≡ stands.Quiet) ↔ IsQuiet (state r h)
+StandingLaw =
+    (r : RecordedOpening) (h : List Step) → IsRun r h
+    → (standing (state r h) ≡ stands.Quiet) ↔ IsQuiet (state r h)
 
 -- the first event is enabled, and there is none exactly where the state is quiet
 pub record FirstLaw : Type 0 where
-  pub enabled : (r : RecordedOpening) (h : List Step) (e : Event) → IsRun r h → first_event (state r h) ≡ Some e → IsTrue (can (state r h) e)
-  pub none : (r : RecordedOpening) (h : List Step) → IsRun r h → (first_event (state r h) ≡ None) ↔ IsQuiet (state r h)
+  pub enabled : (r : RecordedOpening) (h : List Step) (e : Event) → IsRun r h
+      → first_event (state r h) ≡ Some e → IsTrue (can (state r h) e)
+  pub none : (r : RecordedOpening) (h : List Step) → IsRun r h
+      → (first_event (state r h) ≡ None) ↔ IsQuiet (state r h)
 
 -- a message is owed exactly where, for some prefix, what was sent isn't what is offered
 abbrev pub OwedLaw : Type 0
 OwedLaw =
-    (net : Network) (a b : DeviceId) (sent : FinMap prefix_cmp Attributes) (best : FinMap prefix_cmp Choice) → (is_some (owed net a b sent best) ≡ true) ↔ ((p : Cidr) × (fin.get sent p ≢ wanted net a b best p))
+    (net : Network) (a b : DeviceId) (sent : FinMap prefix_cmp Attributes)
+    (best : FinMap prefix_cmp Choice)
+    → (is_some (owed net a b sent best) ≡ true) ↔
+    ((p : Cidr) × (fin.get sent p ≢ wanted net a b best p))

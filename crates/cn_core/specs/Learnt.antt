@@ -4,7 +4,7 @@ use Rattle.std.specs.Borrow.{Bor}
 use Rattle.cn_base.specs.declared.ids.DeviceId.{DeviceId}
 use Rattle.cn_base.specs.declared.rank.Rank.{Rank}
 use Rattle.cn_base.specs.declared.route.Choice.{Choice}
-use Rattle.cn_rib.specs.declared.attributes.Attributes.{Attributes}
+use Rattle.cn_base.specs.declared.route.Attributes.{Attributes}
 use Rattle.cn_net.specs.Candidates.{outranks}
 use Rattle.cn_net.specs.Network.{Network, router_of}
 

@@ -8,4 +8,7 @@ use Rattle.cn_core.specs.declared.event.Step.{Step}
 use Rattle.cn_core.specs.Log.{Log}
 
 abbrev pub log_code : Coded Log
-log_code = code_by (RecordedOpening × List Step) (coded× a_recorded.the_row.coded (coded_list a_step.the_row.coded)) (λ l. (l.recorded, l.history)) (λ p. record { recorded = p.0; history = p.1 }) (λ _. refl)
+log_code =
+    code_by (RecordedOpening × List Step)
+    (coded× a_recorded.the_row.coded (coded_list a_step.the_row.coded))
+    (λ l. (l.recorded, l.history)) (λ p. record { recorded = p.0; history = p.1 }) (λ _. refl)

@@ -9,7 +9,7 @@ use Rattle.cn_base.specs.declared.ids.DeviceId.{DeviceId}
 use Rattle.cn_base.specs.declared.route.Choice.{Choice}
 use Rattle.cn_base.specs.declared.route.Route.{Route}
 use Rattle.cn_rib.specs.PrefixSet as set
-use Rattle.cn_rib.specs.declared.attributes.Attributes.{Attributes}
+use Rattle.cn_base.specs.declared.route.Attributes.{Attributes}
 use Rattle.cn_net.specs.Candidates.{best_of}
 use Rattle.cn_record.specs.Recorded.{RecordedOpening}
 use Rattle.cn_core.specs.declared.event.Event.{Event}
@@ -30,24 +30,29 @@ at_first test f [] = []
 at_first test f (x ∷ xs) = if test x then f x ∷ xs else x ∷ at_first test f xs
 
 unfoldable pub with_session : CoreState → DeviceId → DeviceId → (Session → Session) → CoreState
-with_session s a b f = record { net = s.net; sessions = at_first (is_session a b) f s.sessions; ribs = s.ribs }
+with_session s a b f =
+    record { net = s.net; sessions = at_first (is_session a b) f s.sessions; ribs = s.ribs }
 
 unfoldable pub with_rib : CoreState → DeviceId → Rib → CoreState
 with_rib s d x = record { net = s.net; sessions = s.sessions; ribs = slice_set s.ribs d.0 x }
 
--- ---- receive: the first message leaves the mailbox and is applied to what came in, and its prefix becomes dirty
+-- ---- receive: the first message leaves the mailbox and is applied to what came in, and its prefix
+-- becomes dirty
 
 abbrev pub taken_in : Message → List Message → Session → Session
-taken_in m rest x = record { from = x.from; to = x.to; sent = x.sent; mail = rest; came = apply x.came m }
+taken_in m rest x =
+    record { from = x.from; to = x.to; sent = x.sent; mail = rest; came = apply x.came m }
 
 abbrev pub soiled : Rib → Cidr → Rib
 soiled x p = record { best = x.best; dirty = set.insert x.dirty p }
 
 abbrev pub receive : CoreState → DeviceId → DeviceId → List Message → CoreState
 receive s a b [] = s
-receive s a b (m ∷ rest) = with_rib (with_session s a b (taken_in m rest)) b (soiled (rib s b) (prefix_of m))
+receive s a b (m ∷ rest) =
+    with_rib (with_session s a b (taken_in m rest)) b (soiled (rib s b) (prefix_of m))
 
--- ---- decide: the device holds the best of its candidates for the prefix, which is clean (RFC 4271, 9.1.2)
+-- ---- decide: the device holds the best of its candidates for the prefix, which is clean (RFC
+-- 4271, 9.1.2)
 
 abbrev pub route_with : Cidr → Attributes → Route
 route_with p x = record { prefix = p; path = x.path; origin = x.origin }
@@ -66,10 +71,17 @@ decided x p o = record { best = put_choice x.best p o; dirty = set.remove x.dirt
 abbrev pub decide : CoreState → DeviceId → Cidr → CoreState
 decide s d p = with_rib s d (decided (rib s d) p (best_of s.net (came_at s d p) d p))
 
--- ---- send: the message that is owed stands last in the mailbox, and counts as sent (RFC 4271, 9.2)
+-- ---- send: the message that is owed stands last in the mailbox, and counts as sent (RFC 4271,
+-- 9.2)
 
 abbrev pub put_out : Message → Session → Session
-put_out m x = record { from = x.from; to = x.to; sent = apply x.sent m; mail = x.mail ++ m ∷ []; came = x.came }
+put_out m x = record {
+  from = x.from;
+  to = x.to;
+  sent = apply x.sent m;
+  mail = x.mail ++ m ∷ [];
+  came = x.came;
+}
 
 abbrev pub send : CoreState → DeviceId → DeviceId → Option Message → CoreState
 send s a b None = s
@@ -81,7 +93,9 @@ send s a b (Some m) = with_session s a b (put_out m)
 abbrev pub can : CoreState → Event → Bool
 can s (Receive a b) = nat_lt 0 (length (session s a b).mail)
 can s (Decide d p) = set.contains (rib s d).dirty p
-can s (Send a b) = is_some (find (is_session a b) s.sessions) && (is_some (owed_by s (session s a b)) && nat_lt (length (session s a b).mail) 64)
+can s (Send a b) =
+    is_some (find (is_session a b) s.sessions) &&
+    (is_some (owed_by s (session s a b)) && nat_lt (length (session s a b).mail) 64)
 
 abbrev pub after_event : CoreState → Event → CoreState
 after_event s (Receive a b) = receive s a b (session s a b).mail

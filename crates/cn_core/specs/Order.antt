@@ -38,7 +38,8 @@ standing_of (Some x) d = Mailbox x.from x.to
 standing_of None (Some d) = Device d
 standing_of None None = Quiet
 
--- the first session with mail by (from, to); without mail the first pending device; and else the state is quiet
+-- the first session with mail by (from, to); without mail the first pending device; and else the
+-- state is quiet
 abbrev pub standing : CoreState → Standing
 standing s = standing_of (find has_mail s.sessions) (first_pending s)
 
@@ -58,6 +59,7 @@ first_of s (Some x) d = Some (receive_over x)
 first_of s None (Some d) = device_event s d (set.least (rib s d).dirty)
 first_of s None None = None
 
--- the first event in the serial order: the receive of the first session with mail, or else of the first pending device
+-- the first event in the serial order: the receive of the first session with mail, or else of the
+-- first pending device
 unfoldable pub first_event : CoreState → Option Event
 first_event s = first_of s (find has_mail s.sessions) (first_pending s)

@@ -1,4 +1,5 @@
--- What an event does to the session and the device that it touches, in total functions: without a message nothing happens.
+-- What an event does to the session and the device that it touches, in total functions: without a
+-- message nothing happens.
 use Rattle.std.specs.Prelude.{List, [], ◌∷◌, Option, Some, None}
 use Rattle.cn_base.specs.Cidr.{Cidr}
 use Rattle.cn_core.specs.Machine.{put_out, soiled, taken_in}

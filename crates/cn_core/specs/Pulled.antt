@@ -8,14 +8,16 @@ use Rattle.cn_core.specs.declared.pull.DeviceTable.{DeviceTable}
 use Rattle.cn_core.specs.declared.pull.Pull.{Pull}
 use Rattle.cn_core.specs.declared.pull.Pull.TheVariants as answer
 
--- The state is quiet, and the tables are those of the emulated devices in the one stable state of the whole network, in which
--- the devices that aren't emulated decide too, and there is no speaker, no record and no message.
+-- The state is quiet, and the tables are those of the emulated devices in the one stable state of
+-- the whole network, in which the devices that aren't emulated decide too, and there is no speaker,
+-- no record and no message.
 pub record IsQuietAnswer (l : Log) (tables : List DeviceTable) : Type 0 where
   pub quiet : IsQuiet (now l)
   pub whole : HasOneStableState l.recorded.opening.net
   pub shown : AreTables l.recorded.opening.emulated whole.state tables
 
--- Tables come exactly where the state is quiet; where it isn't, the first thing that is pending comes.
+-- Tables come exactly where the state is quiet; where it isn't, the first thing that is pending
+-- comes.
 abbrev pub IsPulled : Log → Pull → Type 0
 IsPulled l (answer.Quiet tables) = IsQuietAnswer l tables
 IsPulled l (answer.Again pending) = (IsQuiet (now l) → ⊥) × (pending ≡ standing (now l))

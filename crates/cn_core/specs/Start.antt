@@ -1,4 +1,5 @@
--- The start of the core: nothing was sent, the own prefixes of each emulated device are dirty, and each speaker holds what it says.
+-- The start of the core: nothing was sent, the own prefixes of each emulated device are dirty, and
+-- each speaker holds what it says.
 use Rattle.std.specs.Prelude.{List, [], Option, Some, None, option_map, map, if◌then◌else◌, unwrap_or}
 use Rattle.std.specs.List.{filter, flat_map, fold}
 use Rattle.std.specs.FinMap.{FinMap}
@@ -31,11 +32,13 @@ first_sessions o = flat_map (λ a. map (empty_session a) (receivers o a)) (devic
 -- ---- what an emulated device has
 
 abbrev pub own_prefixes : Network → DeviceId → List Cidr
-own_prefixes net d = unwrap_or (option_map (λ x. map (λ o. o.prefix) x.body.own) (device_of net d)) []
+own_prefixes net d =
+    unwrap_or (option_map (λ x. map (λ o. o.prefix) x.body.own) (device_of net d)) []
 
 -- nothing is held, and the own prefixes are dirty
 abbrev pub emulated_rib : Opening → DeviceId → Rib
-emulated_rib o d = record { best = fin.empty; dirty = set.insert_all set.empty (own_prefixes o.net d) }
+emulated_rib o d =
+    record { best = fin.empty; dirty = set.insert_all set.empty (own_prefixes o.net d) }
 
 -- ---- what a speaker has
 
@@ -50,16 +53,20 @@ with_choice best p (Some c) = fin.insert best p c
 
 -- what d says of each prefix that is recorded of it
 abbrev pub said_routes : RecordedOpening → DeviceId → FinMap prefix_cmp Choice
-said_routes r d = fold (λ best x. with_choice best x.prefix (said_by r.opening r.rows d x.prefix)) fin.empty (rows_of r.rows d)
+said_routes r d =
+    fold (λ best x. with_choice best x.prefix (said_by r.opening r.rows d x.prefix)) fin.empty
+    (rows_of r.rows d)
 
--- A speaker holds what it says, and nothing that it holds is ever dirty: no session leads to it, so it takes in nothing.
+-- A speaker holds what it says, and nothing that it holds is ever dirty: no session leads to it, so
+-- it takes in nothing.
 abbrev pub speaker_rib : RecordedOpening → DeviceId → Rib
 speaker_rib r d = record { best = said_routes r d; dirty = set.empty }
 
 -- ---- the state
 
 abbrev pub first_rib : RecordedOpening → DeviceId → Rib
-first_rib r d = if holds_device r.opening.emulated d then emulated_rib r.opening d else speaker_rib r d
+first_rib r d =
+    if holds_device r.opening.emulated d then emulated_rib r.opening d else speaker_rib r d
 
 -- what each device holds, by its number
 unfoldable pub first_ribs : RecordedOpening → List Rib

@@ -11,7 +11,7 @@ use Rattle.cn_base.specs.declared.ids.DeviceId.{DeviceId}
 use Rattle.cn_base.specs.declared.route.Choice.{Choice}
 use Rattle.cn_base.specs.declared.route.Route.{Route}
 use Rattle.cn_rib.specs.PrefixSet as set
-use Rattle.cn_rib.specs.declared.attributes.Attributes.{Attributes}
+use Rattle.cn_base.specs.declared.route.Attributes.{Attributes}
 use Rattle.cn_net.specs.Network.{Network, same_device}
 use Rattle.cn_net.specs.Stable.{offer_of}
 use Rattle.cn_core.specs.declared.message.Message.{Message}
@@ -71,7 +71,8 @@ unfoldable pub offered : Network → DeviceId → DeviceId → Cidr → Option C
 offered net a b p held = option_map attributes_of (offer_of net a b p held)
 
 -- the same, where `best` is what a holds
-abbrev pub wanted : Network → DeviceId → DeviceId → FinMap prefix_cmp Choice → Cidr → Option Attributes
+abbrev pub wanted : Network → DeviceId → DeviceId → FinMap prefix_cmp Choice → Cidr
+    → Option Attributes
 wanted net a b best p = offered net a b p (fin.get best p)
 
 abbrev pub same_numbers : List Asn → List Asn → Bool
@@ -90,22 +91,29 @@ is_news None (Some want) = true
 is_news (Some was) (Some want) = not (same_attributes was want)
 
 -- the least prefix that was sent and for which nothing is offered any more
-abbrev pub withdrawal : Network → DeviceId → DeviceId → FinMap prefix_cmp Attributes → FinMap prefix_cmp Choice → Option (Cidr × Attributes)
+abbrev pub withdrawal : Network → DeviceId → DeviceId → FinMap prefix_cmp Attributes
+    → FinMap prefix_cmp Choice → Option (Cidr × Attributes)
 withdrawal net a b sent best = find (λ e. is_none (wanted net a b best e.0)) (fin.entries sent)
 
 -- the least prefix whose offer isn't what was sent
-abbrev pub announcement : Network → DeviceId → DeviceId → FinMap prefix_cmp Attributes → FinMap prefix_cmp Choice → Option (Cidr × Choice)
-announcement net a b sent best = find (λ e. is_news (fin.get sent e.0) (offered net a b e.0 (Some e.1))) (fin.entries best)
+abbrev pub announcement : Network → DeviceId → DeviceId → FinMap prefix_cmp Attributes
+    → FinMap prefix_cmp Choice → Option (Cidr × Choice)
+announcement net a b sent best =
+    find (λ e. is_news (fin.get sent e.0) (offered net a b e.0 (Some e.1))) (fin.entries best)
 
--- The message that is owed: the withdrawal of the least prefix whose withdrawal is owed, and where no withdrawal is, the
--- announcement of the least owed prefix. `laws::owed_law` says that it is none exactly where nothing is owed.
-abbrev pub owed_of : Network → DeviceId → DeviceId → Option (Cidr × Attributes) → Option (Cidr × Choice) → Option Message
+-- The message that is owed: the withdrawal of the least prefix whose withdrawal is owed, and where
+-- no withdrawal is, the announcement of the least owed prefix. `laws::owed_law` says that it is
+-- none exactly where nothing is owed.
+abbrev pub owed_of : Network → DeviceId → DeviceId → Option (Cidr × Attributes)
+    → Option (Cidr × Choice) → Option Message
 owed_of net a b (Some e) more = Some (Withdraw e.0)
 owed_of net a b None (Some e) = option_map (Announce e.0) (offered net a b e.0 (Some e.1))
 owed_of net a b None None = None
 
-unfoldable pub owed : Network → DeviceId → DeviceId → FinMap prefix_cmp Attributes → FinMap prefix_cmp Choice → Option Message
-owed net a b sent best = owed_of net a b (withdrawal net a b sent best) (announcement net a b sent best)
+unfoldable pub owed : Network → DeviceId → DeviceId → FinMap prefix_cmp Attributes
+    → FinMap prefix_cmp Choice → Option Message
+owed net a b sent best =
+    owed_of net a b (withdrawal net a b sent best) (announcement net a b sent best)
 
 -- the same, of a session of the state
 abbrev pub owed_by : CoreState → Session → Option Message

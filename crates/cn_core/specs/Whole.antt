@@ -13,7 +13,8 @@ use Rattle.cn_core.specs.State.{CoreState, is_session}
 abbrev pub by_ends : Session → Session → Ordering
 by_ends = then_cmp (on (λ x. x.from.0) nat_cmp) (on (λ x. x.to.0) nat_cmp)
 
--- the sessions ascend strictly by their ends, which are linked devices, and each device has what it holds
+-- the sessions ascend strictly by their ends, which are linked devices, and each device has what it
+-- holds
 pub record IsWhole (s : CoreState) : Type 0 where
   pub ascending : AllPairs (λ x y. by_ends x y ≡ Less) s.sessions
   pub within : All (λ x. IsDevice s.net x.from × IsDevice s.net x.to) s.sessions
@@ -29,4 +30,5 @@ pub record IsPlaceOf (a b : DeviceId) (xs : List Session) (i : ℕ) : Type 0 whe
 
 -- no session is one from a to b
 abbrev pub IsNowhere : DeviceId → DeviceId → List Session → Type 0
-IsNowhere a b xs = (k : ℕ) (d : Session) → k < length xs → is_session a b (slice_index_or xs k d) ≡ false
+IsNowhere a b xs =
+    (k : ℕ) (d : Session) → k < length xs → is_session a b (slice_index_or xs k d) ≡ false

@@ -10,9 +10,8 @@ ghost use Rattle.cn_core.specs.Machine.{came_at};
 ghost use Rattle.cn_core.specs.Whole.{IsWhole};
 
 use crate::engine::Engine;
-use cn_base::{AsPath, Choice, DeviceId, Prefix, Rank};
+use cn_base::{AsPath, Attributes, Choice, DeviceId, Prefix, Rank};
 use cn_net::Net;
-use cn_rib::Attributes;
 use std::alloc::{AllocError, Global};
 
 // What decides between routes: the length of the path, the ORIGIN, and the sender (RFC 4271, 9.1.2.2 a, b, f).

@@ -27,8 +27,9 @@ pub enum StepAnswer {
     Memory,
 }
 
-/// A network with its emulated devices and its speakers, the steps so far, and the state to which they
-/// led. Contracts see the recorded opening and the history; the state is what they say that it is.
+/// A network with its emulated devices and its speakers, the steps so far, and the state to which
+/// they led. Contracts see the recorded opening and the history; the state is what they say that it
+/// is.
 #[derive(Drop)]
 pub struct Core {
     recorded: Snapshot<Recorded>,
@@ -51,13 +52,14 @@ impl Model for Core {
 
     ghost view = { λ c. record { recorded = c.recorded.value; history = c.history.items } };
 
-    ghost invariant = { λ c. IsState c.recorded.value c.history.items c.engine × (c.emulated ≡ c.recorded.value.opening.emulated) × IsOwing c.engine c.owing.items };
+    ghost invariant = { λ c. IsState c.recorded.value c.history.items c.engine
+        × (c.emulated ≡ c.recorded.value.opening.emulated) × IsOwing c.engine c.owing.items };
 }
 
 impl Core {
-    /// The core at the start: the emulated devices, and a static speaker in place of each other device,
-    /// which says what is recorded of it for the prefixes of its island and takes in nothing. The opening
-    /// is handed back for want of memory alone.
+    /// The core at the start: the emulated devices, and a static speaker in place of each other
+    /// device, which says what is recorded of it for the prefixes of its island and takes in
+    /// nothing. The opening is handed back for want of memory alone.
     pub fn start(alloc: Global, recorded: Recorded) -> Result<Core, Recorded>
         ensures ok { IfOk result (λ core. core ≡ record { recorded = recorded; history = [] }) }
         ensures err { IfErr result (λ back. back ≡ recorded) }
@@ -86,8 +88,8 @@ impl Core {
         }
     }
 
-    /// One event (RFC 4271, 9). One that isn't enabled never happens, and `NotEnabled` comes for such a one
-    /// alone. After every error the core is as before.
+    /// One event (RFC 4271, 9). One that isn't enabled never happens, and `NotEnabled` comes for
+    /// such a one alone. After every error the core is as before.
     pub fn step(&mut self, alloc: Global, event: Event) -> Result<(), StepAnswer>
         ensures enabled { OnOk result (CanStep self.old event) }
         ensures ok { OnOk result (self.new ≡ then self.old (Step.Work event)) }
@@ -108,8 +110,8 @@ impl Core {
         Ok(())
     }
 
-    /// The mark behind command `k`: nothing but the history changes. The error is want of memory, after
-    /// which the core is as before.
+    /// The mark behind command `k`: nothing but the history changes. The error is want of memory,
+    /// after which the core is as before.
     pub fn mark(&mut self, k: u32) -> Result<(), AllocError>
         ensures ok { OnOk result (self.new ≡ then self.old (Step.Mark k)) }
         ensures err { OnErr result (self.new ≡ self.old) }
@@ -121,7 +123,8 @@ impl Core {
         Ok(())
     }
 
-    /// The first event in the serial order. None comes exactly where the state is quiet. It takes no memory.
+    /// The first event in the serial order. None comes exactly where the state is quiet. It takes
+    /// no memory.
     pub fn first(&self) -> Option<Event>
         ensures event { result ≡ first_event (now self.now) }
         ensures kept { IsKept self.now.recorded (now self.now) }
@@ -136,9 +139,9 @@ impl Core {
         self.engine.standing(&self.owing)
     }
 
-    /// The tables of the emulated devices exactly where the state is quiet, and they are then those of the
-    /// one stable state of the whole network, over all devices and without speakers; and else what is
-    /// pending first, a speaker's message too. The error is want of memory.
+    /// The tables of the emulated devices exactly where the state is quiet, and they are then those
+    /// of the one stable state of the whole network, over all devices and without speakers; and
+    /// else what is pending first, a speaker's message too. The error is want of memory.
     pub fn pull(&self, alloc: Global) -> Result<Pull, AllocError>
         ensures { IfOk result (λ pull. IsPulled self.now pull) }
     {

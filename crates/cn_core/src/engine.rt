@@ -13,9 +13,9 @@ ghost use Rattle.cn_core.specs.Whole.{IsNowhere, IsPlaceOf, IsWhole};
 use crate::event::Event;
 use crate::owed::{message, owes, owes_for};
 use crate::session::{Rib, Session, receive};
-use cn_base::{Choice, DeviceId, Prefix};
+use cn_base::{Attributes, Choice, DeviceId, Prefix};
 use cn_net::Net;
-use cn_rib::{Attributes, PrefixMap};
+use cn_rib::PrefixMap;
 use std::alloc::{AllocError, Global};
 use std::marker::Model;
 
@@ -42,7 +42,8 @@ impl Engine {
     /// The place of a session, found by halving.
     pub fn place(&self, from: DeviceId, to: DeviceId) -> Option<usize>
         requires whole { IsWhole self.now }
-        ensures { MatchOption result (IsNowhere from to self.now.sessions) (λ i. IsPlaceOf from to self.now.sessions i) }
+        ensures { MatchOption result (IsNowhere from to self.now.sessions)
+            (λ i. IsPlaceOf from to self.now.sessions i) }
     {
         match self
             .sessions
@@ -163,7 +164,8 @@ impl Engine {
     fn receive(&mut self, alloc: Global, from: DeviceId, to: DeviceId) -> Result<(), AllocError>
         requires whole { IsWhole self.old }
         requires mail { 0 < length (session self.old from to).mail }
-        ensures ok { OnOk result (self.new ≡ receive self.old from to (session self.old from to).mail) }
+        ensures ok { OnOk result
+            (self.new ≡ receive self.old from to (session self.old from to).mail) }
         ensures err { OnErr result (self.new ≡ self.old) }
     {
         match self.place(from, to) {
@@ -185,7 +187,8 @@ impl Engine {
     fn send(&mut self, alloc: Global, from: DeviceId, to: DeviceId) -> Result<(), AllocError>
         requires whole { IsWhole self.old }
         requires can { IsTrue (can self.old (Event.Send from to)) }
-        ensures ok { OnOk result (self.new ≡ send self.old from to (owed_by self.old (session self.old from to))) }
+        ensures ok { OnOk result
+            (self.new ≡ send self.old from to (owed_by self.old (session self.old from to))) }
         ensures err { OnErr result (self.new ≡ self.old) }
     {
         match self.place(from, to) {

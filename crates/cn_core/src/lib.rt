@@ -1,14 +1,15 @@
-//! The core of the emulator: emulated devices and static speakers that exchange routes over sessions, as
-//! one plain value.
+//! The core of the emulator: emulated devices and static speakers that exchange routes over
+//! sessions, as one plain value.
 //!
-//! Contracts see a `Core` as its recorded opening (a network with its emulated devices, behind a certified
-//! boundary, and sound records of the others) and the history of its steps. `specs/State.antt` has the state
-//! that stands behind it, `specs/Start.antt` the start, `specs/Machine.antt` each event's condition and its one
-//! result, `specs/Order.antt` what is pending and which event is first, `specs/Pulled.antt` what a pull shows, and
-//! `specs/Laws.antt` what holds after every run; `laws` has these as contracts. A call changes the history
-//! and nothing that a contract names beside it. What a device offers, accepts and prefers is defined in
-//! `cn_net`, and what a speaker says in `cn_record`; what is printed of a history or an answer is left to the
-//! crates above.
+//! Contracts see a `Core` as its recorded opening (a network with its emulated devices, behind a
+//! certified boundary, and sound records of the others) and the history of its steps.
+//! `specs/State.antt` has the state that stands behind it, `specs/Start.antt` the start,
+//! `specs/Machine.antt` each event's condition and its one result, `specs/Order.antt` what is
+//! pending and which event is first, `specs/Pulled.antt` what a pull shows, and `specs/Laws.antt`
+//! what holds after every run; `laws` has these as contracts. A call changes the history and
+//! nothing that a contract names beside it. What a device offers, accepts and prefers is defined in
+//! `cn_net`, and what a speaker says in `cn_record`; what is printed of a history or an answer is
+//! left to the crates above.
 #![tactic(auto)]
 
 mod answer;
@@ -29,6 +30,3 @@ pub use emulator::{Core, StepAnswer};
 pub use event::{Event, Step};
 pub use message::Message;
 pub use pull::{DeviceTable, Pull, Tables};
-
-#[cfg(test)]
-mod tests;

@@ -1,7 +1,6 @@
 //! What goes over a session.
 
-use cn_base::Prefix;
-use cn_rib::Attributes;
+use cn_base::{Attributes, Prefix};
 
 /// An UPDATE message of one prefix, as a value: a withdrawal, or an announcement with the path
 /// attributes of the route (RFC 4271, 4.3).

@@ -10,9 +10,9 @@ ghost use Rattle.cn_core.specs.State.{announcement, is_news, offered, owed, want
 
 use crate::message::Message;
 use crate::session::Session;
-use cn_base::{Choice, DeviceId, Prefix, Route};
+use cn_base::{Attributes, Choice, DeviceId, Prefix, Route};
 use cn_net::Net;
-use cn_rib::{Attributes, PrefixMap, Row};
+use cn_rib::{PrefixMap, Row};
 use std::alloc::{AllocError, Global};
 
 // Whether nothing is offered for a prefix.
@@ -46,7 +46,9 @@ fn is_news(
 ) -> bool
     requires from { IsDevice net.now from }
     requires to { IsDevice net.now to }
-    ensures { result ≡ is_news (option_copied sent.entry) (offered net.now from to prefix.now (Some choice.now)) }
+    ensures { result
+        ≡ is_news (option_copied sent.entry)
+        (offered net.now from to prefix.now (Some choice.now)) }
 {
     match sent {
         Some(sent) => {
@@ -75,7 +77,8 @@ fn first_withdrawn<'a>(
 ) -> Option<&'a Row<Attributes>>
     requires from { IsDevice net.now from }
     requires to { IsDevice net.now to }
-    ensures { option_copied result ≡ find (λ r. is_none (wanted net.now from to best.now r.prefix)) sent.now }
+    ensures { option_copied result
+        ≡ find (λ r. is_none (wanted net.now from to best.now r.prefix)) sent.now }
 {
     sent.iter()
         .find(|row| is_withdrawn(net, from, to, best, &row.prefix))
@@ -89,7 +92,8 @@ pub fn withdrawal<'a>(
 ) -> Option<&'a Row<Attributes>>
     requires from { IsDevice net.now session.now.from }
     requires to { IsDevice net.now session.now.to }
-    ensures { option_map pair_of (option_copied result) ≡ withdrawal net.now session.now.from session.now.to session.now.sent best.now }
+    ensures { option_map pair_of (option_copied result)
+        ≡ withdrawal net.now session.now.from session.now.to session.now.sent best.now }
 {
     first_withdrawn(net, session.from, session.to, best, session.sent.rows())
 }
@@ -102,7 +106,9 @@ fn first_announced<'a>(
 ) -> Option<&'a Row<Choice>>
     requires from { IsDevice net.now session.now.from }
     requires to { IsDevice net.now session.now.to }
-    ensures { option_copied result ≡ find (λ r. is_news (fin.get session.now.sent r.prefix) (offered net.now session.now.from session.now.to r.prefix (Some r.value))) best.now }
+    ensures { option_copied result
+        ≡ find (λ r. is_news (fin.get session.now.sent r.prefix)
+        (offered net.now session.now.from session.now.to r.prefix (Some r.value))) best.now }
 {
     best.iter().find(|row| {
         let sent = session.sent.get(&row.prefix);
@@ -118,7 +124,8 @@ pub fn announcement<'a>(
 ) -> Option<&'a Row<Choice>>
     requires from { IsDevice net.now session.now.from }
     requires to { IsDevice net.now session.now.to }
-    ensures { option_map pair_of (option_copied result) ≡ announcement net.now session.now.from session.now.to session.now.sent best.now }
+    ensures { option_map pair_of (option_copied result)
+        ≡ announcement net.now session.now.from session.now.to session.now.sent best.now }
 {
     first_announced(net, session, best.rows())
 }
@@ -128,7 +135,8 @@ pub fn announcement<'a>(
 pub fn owes(net: &Net, session: &Session, best: &PrefixMap<Choice>) -> bool
     requires from { IsDevice net.now session.now.from }
     requires to { IsDevice net.now session.now.to }
-    ensures { result ≡ is_some (owed net.now session.now.from session.now.to session.now.sent best.now) }
+    ensures { result
+        ≡ is_some (owed net.now session.now.from session.now.to session.now.sent best.now) }
 {
     withdrawal(net, session, best).is_some() || announcement(net, session, best).is_some()
 }
@@ -137,7 +145,9 @@ pub fn owes(net: &Net, session: &Session, best: &PrefixMap<Choice>) -> bool
 pub fn owes_for(net: &Net, session: &Session, best: &PrefixMap<Choice>, prefix: &Prefix) -> bool
     requires from { IsDevice net.now session.now.from }
     requires to { IsDevice net.now session.now.to }
-    ensures { result ≡ differs (fin.get session.now.sent prefix.now) (wanted net.now session.now.from session.now.to best.now prefix.now) }
+    ensures { result
+        ≡ differs (fin.get session.now.sent prefix.now)
+        (wanted net.now session.now.from session.now.to best.now prefix.now) }
 {
     if is_withdrawn(net, session.from, session.to, best, prefix) {
         return session.sent.get(prefix).is_some();
@@ -162,7 +172,9 @@ fn announced(
 ) -> Result<Option<Message>, AllocError>
     requires from { IsDevice net.now from }
     requires to { IsDevice net.now to }
-    ensures { IfOk result (λ o. o ≡ option_map (Message.Announce prefix.now) (offered net.now from to prefix.now (Some choice.now))) }
+    ensures { IfOk result (λ o. o
+        ≡ option_map (Message.Announce prefix.now)
+        (offered net.now from to prefix.now (Some choice.now))) }
 {
     match net.offer_path(alloc, from, to, prefix, &choice.path, choice.origin)? {
         Some(offer) => {
@@ -186,7 +198,8 @@ pub fn message(
 ) -> Result<Option<Message>, AllocError>
     requires from { IsDevice net.now session.now.from }
     requires to { IsDevice net.now session.now.to }
-    ensures { IfOk result (λ message. message ≡ owed net.now session.now.from session.now.to session.now.sent best.now) }
+    ensures { IfOk result (λ message.
+        message ≡ owed net.now session.now.from session.now.to session.now.sent best.now) }
 {
     if let Some(row) = withdrawal(net, session, best) {
         return Ok(Some(Message::Withdraw { prefix: row.prefix }));

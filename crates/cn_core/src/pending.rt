@@ -1,7 +1,8 @@
 //! What is pending, and which event comes first in the serial order.
 //!
-//! Which sessions owe a message is remembered, since it takes long to see: what the sender offers of each of
-//! its routes is compared with what was sent. It is looked at again where an event may have changed it.
+//! Which sessions owe a message is remembered, since it takes long to see: what the sender offers
+//! of each of its routes is compared with what was sent. It is looked at again where an event may
+//! have changed it.
 
 ghost use Rattle.std.specs.Prelude.{◌≡◌, ◌<◌, ◌≤◌, false, IfSome, is_some, length, option_copied};
 ghost use Rattle.std.specs.List.{find};
@@ -25,8 +26,8 @@ impl Engine {
         self.sessions.iter().find(|x| 0 < x.mail.len())
     }
 
-    // The places of the sessions from a device, which stand together: the first of them, and the one behind
-    // the last.
+    // The places of the sessions from a device, which stand together: the first of them, and the
+    // one behind the last.
     fn places_from(&self, device: DeviceId) -> (usize, usize)
         requires whole { IsWhole self.now }
         ensures { ArePlacesOf device self.now.sessions result.0 result.1 }
@@ -48,8 +49,8 @@ impl Engine {
         }
     }
 
-    // Whether a session owes a message after a decision for a prefix, by whether it did before. For all other
-    // prefixes it owes what it owed.
+    // Whether a session owes a message after a decision for a prefix, by whether it did before. For
+    // all other prefixes it owes what it owed.
     fn still_owes(&self, session: &Session, prefix: &Prefix, before: bool) -> bool
         requires whole { IsWhole self.now }
         requires from { IsDevice self.now.net session.now.from }
@@ -63,7 +64,8 @@ impl Engine {
         before && self.owes(session)
     }
 
-    // Looks again which sessions at these places owe a message, after a decision of their device for a prefix.
+    // Looks again which sessions at these places owe a message, after a decision of their device
+    // for a prefix.
     fn settle_for(&self, owing: &mut Vec<bool>, start: usize, end: usize, prefix: &Prefix)
         requires whole { IsWhole self.now }
         requires inside { end ≤ length self.now.sessions }
@@ -96,7 +98,8 @@ impl Engine {
         }
     }
 
-    /// Looks again which sessions owe a message, where an event that has happened may have changed it.
+    /// Looks again which sessions owe a message, where an event that has happened may have changed
+    /// it.
     pub fn settle_after(&self, owing: &mut Vec<bool>, event: &Event)
         requires whole { IsWhole self.now }
         requires owing { IsOwingAfter event.now self.now owing.old.items }

@@ -23,6 +23,18 @@ pub struct DeviceTable {
     pub table: Table,
 }
 
+impl DeviceTable {
+    /// An equal table of the device.
+    pub fn copy(&self, alloc: Global) -> Result<DeviceTable, AllocError>
+        ensures { IfOk result (λ table. table ≡ self.now) }
+    {
+        Ok(DeviceTable {
+            device: self.device,
+            table: self.table.copy(alloc)?,
+        })
+    }
+}
+
 /// The tables of devices, which ascend by number. Contracts see the list.
 #[derive(Debug, Drop)]
 pub struct Tables {
@@ -57,19 +69,47 @@ impl Tables {
     {
         self.tables.as_slice()
     }
+
+    /// Equal tables.
+    pub fn copy(&self, alloc: Global) -> Result<Tables, AllocError>
+        ensures { IfOk result (λ tables. tables ≡ self.now) }
+    {
+        let mut tables = Vec::with_capacity(alloc, self.tables.len())?;
+        for table in &self.tables {
+            tables.push(table.copy(alloc)?)?;
+        }
+        Ok(Tables { tables })
+    }
 }
 
-/// What a pull answers: the table of each emulated device where the state is quiet, and what is pending
-/// first where it isn't.
+/// What a pull answers: the table of each emulated device where the state is quiet, and what is
+/// pending first where it isn't.
 #[derive(Debug, Drop)]
 pub enum Pull {
     Quiet { tables: Tables },
     Again { standing: Standing },
 }
 
+impl Pull {
+    /// An equal answer.
+    pub fn copy(&self, alloc: Global) -> Result<Pull, AllocError>
+        ensures { IfOk result (λ pull. pull ≡ self.now) }
+    {
+        match self {
+            Pull::Quiet { tables } => Ok(Pull::Quiet {
+                tables: tables.copy(alloc)?,
+            }),
+            Pull::Again { standing } => Ok(Pull::Again {
+                standing: *standing,
+            }),
+        }
+    }
+}
+
 // What a device holds, as a table.
 fn table(alloc: Global, best: &PrefixMap<Choice>) -> Result<Table, AllocError>
-    ensures { IfOk result (λ table. AscendsByPrefix table × ((p : Cidr) → choice_for table p ≡ fin.get best.now p)) }
+    ensures { IfOk result
+        (λ table. AscendsByPrefix table × ((p : Cidr) → choice_for table p ≡ fin.get best.now p)) }
 {
     let mut rows = Vec::with_capacity(alloc, best.len())?;
     for row in best.rows() {

@@ -6,13 +6,13 @@ ghost use Rattle.cn_core.specs.Machine.{decided, soiled};
 ghost use Rattle.cn_core.specs.State.{apply, prefix_of};
 
 use crate::message::Message;
-use cn_base::{Choice, DeviceId, Prefix};
+use cn_base::{Attributes, Choice, DeviceId, Prefix};
 use cn_mail::Mailbox;
-use cn_rib::{Attributes, PrefixMap, PrefixSet};
+use cn_rib::{PrefixMap, PrefixSet};
 use std::alloc::{AllocError, Global};
 
-/// A directed session: what was sent over it (the sender's Adj-RIB-Out), the messages that are under way,
-/// and what came in over it (the receiver's Adj-RIB-In; RFC 4271, 3.2).
+/// A directed session: what was sent over it (the sender's Adj-RIB-Out), the messages that are
+/// under way, and what came in over it (the receiver's Adj-RIB-In; RFC 4271, 3.2).
 #[derive(Drop)]
 pub struct Session {
     pub from: DeviceId,
@@ -22,7 +22,8 @@ pub struct Session {
     pub came: PrefixMap<Attributes>,
 }
 
-/// What a device holds (its Loc-RIB; RFC 4271, 3.2), and the prefixes for which it is to decide again.
+/// What a device holds (its Loc-RIB; RFC 4271, 3.2), and the prefixes for which it is to decide
+/// again.
 #[derive(Drop)]
 pub struct Rib {
     pub best: PrefixMap<Choice>,

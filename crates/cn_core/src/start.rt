@@ -1,5 +1,5 @@
-//! The state at the start: nothing was sent, the own prefixes of each emulated device are dirty, and each
-//! speaker holds what it says.
+//! The state at the start: nothing was sent, the own prefixes of each emulated device are dirty,
+//! and each speaker holds what it says.
 
 ghost use Rattle.std.specs.Prelude.{◌≡◌, ◌++◌, ◌∷◌, [], IfErr, IfOk, OnOk, length, map, option_copied};
 ghost use Rattle.std.specs.List.{filter};
@@ -39,7 +39,10 @@ fn add_session(
     from: DeviceId,
     to: DeviceId,
 ) -> Result<(), AllocError>
-    ensures { OnOk result (sessions.new.items ≡ sessions.old.items ++ map (empty_session from) (filter (holds_device emulated.now) (to ∷ []))) }
+    ensures { OnOk result
+        (sessions.new.items
+        ≡ sessions.old.items
+        ++ map (empty_session from) (filter (holds_device emulated.now) (to ∷ []))) }
 {
     if emulated.holds(to) {
         sessions.push(session(alloc, from, to)?)?;
@@ -55,7 +58,10 @@ fn add_sessions(
     emulated: &DeviceSet,
     from: DeviceId,
 ) -> Result<(), AllocError>
-    ensures { OnOk result (sessions.new.items ≡ sessions.old.items ++ map (empty_session from) (filter (holds_device emulated.now) (peers_of net.now from))) }
+    ensures { OnOk result
+        (sessions.new.items
+        ≡ sessions.old.items
+        ++ map (empty_session from) (filter (holds_device emulated.now) (peers_of net.now from))) }
 {
     for neighbour in net.neighbours(from) {
         add_session(alloc, sessions, emulated, from, neighbour.device)?;
@@ -82,7 +88,8 @@ fn sessions(alloc: Global, certified: &Certified) -> Result<Vec<Session>, AllocE
 
 // These prefixes are dirty.
 fn own_dirty(alloc: Global, own: &[Own]) -> Result<PrefixSet, AllocError>
-    ensures { IfOk result (λ dirty. dirty ≡ set.insert_all set.empty (map (λ o. o.prefix) own.now)) }
+    ensures { IfOk result
+        (λ dirty. dirty ≡ set.insert_all set.empty (map (λ o. o.prefix) own.now)) }
 {
     let mut dirty = PrefixSet::new(alloc);
     for one in own {
@@ -123,7 +130,8 @@ fn hold(
     prefix: Prefix,
     choice: Option<&Choice>,
 ) -> Result<(), AllocError>
-    ensures { OnOk result (routes.new ≡ with_choice routes.old prefix (option_copied choice.entry)) }
+    ensures { OnOk result
+        (routes.new ≡ with_choice routes.old prefix (option_copied choice.entry)) }
 {
     match choice {
         Some(choice) => routes.insert(prefix, choice.copy(alloc)?),
@@ -178,8 +186,8 @@ fn ribs(alloc: Global, recorded: &Recorded) -> Result<Vec<Rib>, AllocError>
     Ok(ribs)
 }
 
-/// The state at the start, the emulated devices, and room to remember which sessions owe a message. None was
-/// looked at yet.
+/// The state at the start, the emulated devices, and room to remember which sessions owe a message.
+/// None was looked at yet.
 pub struct Opened {
     pub engine: Engine,
     pub emulated: DeviceSet,

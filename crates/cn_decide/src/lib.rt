@@ -11,9 +11,6 @@ ghost use Rattle.cn_decide.specs.Decide.{IsPick, rank_of};
 
 use cn_base::{DeviceId, Rank, Route, RouterId};
 
-#[cfg(test)]
-mod tests;
-
 /// A route that a device may use. `from` is the device that it came from, and none where it is the
 /// device's own; `sender` is the BGP Identifier of that device.
 #[derive(Debug, Drop)]

@@ -10,7 +10,5 @@
 
 mod growing;
 mod members;
-#[cfg(test)]
-mod tests;
 
 pub use growing::grow;

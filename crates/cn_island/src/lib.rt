@@ -9,7 +9,5 @@
 #![tactic(auto)]
 
 mod labelling;
-#[cfg(test)]
-mod tests;
 
 pub use labelling::islands;

@@ -9,8 +9,8 @@ use std::marker::Model;
 /// How many messages a mailbox holds at most.
 const ROOM: usize = 64;
 
-/// A queue of at most 64 messages, the oldest first. It has room for all 64 from the start, so no call
-/// but `new` takes memory. Contracts see the list of the messages.
+/// A queue of at most 64 messages, the oldest first. It has room for all 64 from the start, so no
+/// call but `new` takes memory. Contracts see the list of the messages.
 #[derive(Drop)]
 pub struct Mailbox<T> {
     messages: HeapCircularBuffer<T>,

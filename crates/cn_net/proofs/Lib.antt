@@ -4,12 +4,14 @@ pub mod Apart
 pub mod Boundary
 pub mod Candidates
 pub mod Chains
+pub mod Counting
 pub mod Crossing
 pub mod Drafts
 pub mod Faultless
 pub mod Finding
 pub mod First
 pub mod Keys
+pub mod Known
 pub mod Linked
 pub mod Making
 pub mod Members
@@ -21,8 +23,10 @@ pub mod Peers
 pub mod Places
 pub mod Quiet
 pub mod Ranks
+pub mod Remade
 pub mod Restricted
 pub mod Rounds
+pub mod SameEnds
 pub mod Seen
 pub mod States
 pub mod Steps

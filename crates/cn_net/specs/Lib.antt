@@ -2,6 +2,7 @@ pub mod Network
 pub mod Valid
 pub mod Drafted
 pub mod Exchange
+pub mod Offered
 pub mod Neighbours
 pub mod Candidates
 pub mod Stable
@@ -15,4 +16,6 @@ pub mod Faults
 pub mod Islands
 pub mod Certificate
 pub mod Boundary
+pub mod Limits
 pub mod Opening
+pub mod Alike

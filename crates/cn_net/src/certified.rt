@@ -2,7 +2,7 @@
 
 ghost use Rattle.std.specs.Prelude.{◌≡◌, All};
 ghost use Rattle.cn_net.specs.Certificate.{IsCertified};
-ghost use Rattle.cn_net.specs.Islands.{IsFitting, label_of, outside_of};
+ghost use Rattle.cn_net.specs.Islands.{IsIslandLabelling, label_of, outside_of};
 ghost use Rattle.cn_net.specs.Network.{IsDevice};
 ghost use Rattle.cn_net.specs.Opening.{IsOpening};
 
@@ -26,15 +26,16 @@ impl Model for Certified {
 
     ghost view = { λ c. record { net = c.net; emulated = c.emulated; labels = c.labels } };
 
-    ghost invariant = { λ c. IsOpening (record { net = c.net; emulated = c.emulated; labels = c.labels }) };
+    ghost invariant = { λ c.
+        IsOpening (record { net = c.net; emulated = c.emulated; labels = c.labels }) };
 }
 
 impl Certified {
-    /// The network with these emulated devices and these labels, which fit and have the certificate. It
-    /// takes no memory.
-    pub fn make(net: Net, emulated: DeviceSet, labels: Labels) -> Certified
+    /// The network with these emulated devices and these labels, which fit and have the
+    /// certificate. It takes no memory.
+    pub fn hold(net: Net, emulated: DeviceSet, labels: Labels) -> Certified
         requires devices { All (IsDevice net) emulated }
-        requires fitting { IsFitting net (outside_of emulated) (label_of labels) }
+        requires labelling { IsIslandLabelling net (outside_of emulated) (label_of labels) }
         requires certified { IsCertified net (outside_of emulated) (label_of labels) }
         ensures { result ≡ record { net = net; emulated = emulated; labels = labels } }
     {
@@ -48,8 +49,8 @@ impl Certified {
         }
     }
 
-    /// Does nothing: a boundary is certified by its type, and a proof that needs to know so cites this
-    /// call.
+    /// Does nothing: a boundary is certified by its type, and a proof that needs to know so cites
+    /// this call.
     pub fn valid(&self)
         ensures { IsOpening self.now }
     {

@@ -1,6 +1,6 @@
-//! A network as a plan writes it: links name their ends.
+//! A network as a plan writes it: links name their ends, and policies their peers.
 
-use crate::device::Own;
+use crate::device::{Own, Policy};
 use cn_base::{Asn, Items, Name, RouterId};
 
 /// Devices and links as they are written, with names in place of numbers.
@@ -24,6 +24,14 @@ pub struct DeviceDraft {
 pub struct BodyDraft {
     pub asn: Asn,
     pub own: Items<Own>,
+    pub peers: Items<PeerDraft>,
+}
+
+/// A peer as it is written, and the policy for it.
+#[derive(Debug, Drop)]
+pub struct PeerDraft {
+    pub name: Name,
+    pub policy: Policy,
 }
 
 /// A link as it is written.

@@ -6,12 +6,16 @@ ghost use Rattle.cn_net.specs.declared.fault.NetAnswer.TheVariants.{Memory};
 use cn_base::{DeviceId, Name, Prefix};
 use std::alloc::{AllocError, AllocFailed};
 
-/// What there is too much of.
+/// What there is too much of: in a draft devices, links or distinct prefixes; of what is emulated
+/// devices, or rows, which are the kept directed sessions times the distinct prefixes. A directed
+/// session is kept where its receiver is emulated.
 #[derive(Clone, Copy, Debug, PartialEq, Eq)]
 pub enum What {
     Devices,
     Links,
     Prefixes,
+    Emulated,
+    Rows,
 }
 
 /// A fault of a draft. Device numbers are places in the draft, from 0.
@@ -25,8 +29,10 @@ pub enum NetFault {
     DuplicateId { a: DeviceId, b: DeviceId },
     /// The device's own prefixes have this one twice, and up to its second place no other.
     DuplicateOwn { device: DeviceId, prefix: Prefix },
-    /// A link ends at a device of this name, and there is none.
+    /// A device lists a peer of this name, or a link ends at one of this name, and there is none.
     UnknownName { name: Name },
+    /// The device lists this peer twice.
+    DuplicatePeer { device: DeviceId, peer: DeviceId },
     /// Both ends of a link are this device.
     SelfLink { device: DeviceId },
     /// The ends of a link, in its order, which a link before it has in this order or the other.

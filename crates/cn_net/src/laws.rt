@@ -1,6 +1,6 @@
 //! Laws of the definitions. Each function does nothing; its contract is the law.
 
-ghost use Rattle.std.specs.Prelude.{◌≡◌, ◌↔◌, ℕ, Bool, Option, None};
+ghost use Rattle.std.specs.Prelude.{◌≡◌, ◌↔◌, ◌<◌, ℕ, Bool, true, false, length, Option, None, Some};
 ghost use Rattle.cn_base.specs.Cidr.{Cidr};
 ghost use Rattle.cn_base.specs.declared.ids.DeviceId.{DeviceId};
 ghost use Rattle.cn_base.specs.declared.route.Choice.{Choice};
@@ -9,9 +9,12 @@ ghost use Rattle.cn_net.specs.Boundary.{AgreeInside, IsBounded, IsStableInside, 
 ghost use Rattle.cn_net.specs.Candidates.{IsBest, best_of};
 ghost use Rattle.cn_net.specs.Certificate.{IsCertified};
 ghost use Rattle.cn_net.specs.Drafted.{StandsForOne, draft_of};
+ghost use Rattle.cn_base.specs.Paths.{holds_asn};
+ghost use Rattle.cn_net.specs.Exchange.{accept, offer};
 ghost use Rattle.cn_net.specs.Faults.{fault_of};
-ghost use Rattle.cn_net.specs.Islands.{IsFitting, IsIslands};
-ghost use Rattle.cn_net.specs.Network.{Network, IsDevice};
+ghost use Rattle.cn_net.specs.Offered.{IsOffered};
+ghost use Rattle.cn_net.specs.Islands.{IsIslandLabelling, IsIslands};
+ghost use Rattle.cn_net.specs.Network.{Network, IsDevice, asn_of};
 ghost use Rattle.cn_net.specs.OneState.{HasOneStableState, HasOneStableStateFor, RoundsAgree};
 ghost use Rattle.cn_net.specs.Records.{AreSound, SaysItsOwn};
 ghost use Rattle.cn_net.specs.Restriction.{restricted};
@@ -38,6 +41,36 @@ pub fn islands_are_one()
 pub fn certified_alike()
     ensures { (net : Network) (outside : DeviceId → Bool) (x y : DeviceId → Option DeviceId) → ((d : DeviceId) → IsDevice net d → x d ≡ y d) → IsCertified net outside x → IsCertified net outside y }
 {}
+
+// ---- the four laws of what is offered and accepted, on which alone the proofs above rest
+
+/// What is offered of a route is one route: a function of the network, the two devices and the route.
+pub fn offers_are_one()
+    ensures { (net : Network) (a b : DeviceId) (r x y : Route)
+        → offer net a b r ≡ Some x → offer net a b r ≡ Some y → x ≡ y }
+{}
+
+/// What is offered has a longer path than the route.
+pub fn offers_are_longer()
+    ensures { (net : Network) (a b : DeviceId) (r x : Route)
+        → offer net a b r ≡ Some x → length r.path < length x.path }
+{}
+
+/// Its path begins with the AS number of the device that offers it and ends with the path of the route
+/// (RFC 4271, 5.1.2), and prefix and ORIGIN are those of the route.
+pub fn offers_begin_with_the_sender()
+    ensures { (net : Network) (a b : DeviceId) (r x : Route)
+        → offer net a b r ≡ Some x → IsOffered net a b r x }
+{}
+
+/// The path of a route that is accepted doesn't hold the AS number of the device that accepts it
+/// (RFC 4271, 9.1.2).
+pub fn accepted_paths_are_new()
+    ensures { (net : Network) (a b : DeviceId) (r : Route)
+        → accept net b a r ≡ true → holds_asn r.path (asn_of net b) ≡ false }
+{}
+
+// ---- decisions, stable states and boundaries
 
 /// What `best_of` computes is the best of a device's candidates (RFC 4271, 9.1.2.2).
 pub fn best_is_best()
@@ -84,9 +117,9 @@ pub fn routes_cross()
 {}
 
 /// The labels of the islands fit.
-pub fn islands_fit()
+pub fn islands_are_a_labelling()
     ensures { (net : Network) (outside : DeviceId → Bool) (label : DeviceId → Option DeviceId)
-        → IsIslands net outside label → IsFitting net outside label }
+        → IsIslands net outside label → IsIslandLabelling net outside label }
 {}
 
 /// Behind a certified boundary, where the records are sound, each outside device holds in the stable state

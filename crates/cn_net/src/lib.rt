@@ -17,12 +17,15 @@
 //! `proofs/Restricted.antt` prove.
 #![tactic(auto)]
 
+pub mod alike;
 mod certified;
+mod copies;
 mod device;
 mod draft;
 mod exchange;
 mod fault;
 pub mod laws;
+mod limits;
 mod make;
 mod neighbours;
 mod net;
@@ -30,12 +33,10 @@ mod repeat;
 mod sets;
 
 pub use certified::Certified;
-pub use device::{Body, Device, Link, Own};
-pub use draft::{BodyDraft, DeviceDraft, Draft, LinkDraft};
+pub use device::{Body, Device, Link, Own, Peer, Policy};
+pub use draft::{BodyDraft, DeviceDraft, Draft, LinkDraft, PeerDraft};
 pub use fault::{NetAnswer, NetFault, What};
+pub use limits::{Excess, passed_limit, row_count, session_count};
 pub use neighbours::Neighbour;
 pub use net::Net;
 pub use sets::{DeviceSet, Labels};
-
-#[cfg(test)]
-mod tests;

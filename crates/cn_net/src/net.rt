@@ -13,7 +13,7 @@ ghost use Rattle.cn_net.specs.Valid.{IsValid};
 use crate::device::{Device, Link};
 use crate::draft::Draft;
 use crate::fault::NetAnswer;
-use crate::make::{copied_devices, few_parts, joined_links};
+use crate::make::{few_parts, joined_links, numbered_devices};
 use crate::neighbours::{Neighbour, neighbours_of};
 use crate::repeat::{distinct_devices, few_prefixes};
 use cn_base::{Asn, DeviceId, Items, Origin, Prefix, RouterId};
@@ -42,20 +42,24 @@ impl Model for Net {
 }
 
 impl Net {
-    /// The network that a draft stands for. A fault comes exactly where the draft stands for no valid
-    /// network, and it is the first in this order (`specs/Faults.antt`): too many devices, or links; for
-    /// each device in order, a name or a router id that an earlier device has, or a prefix that its list
-    /// repeats; too many prefixes, each counted once; for each link in order, a first or a second end that
-    /// is unknown, one device at both ends, the ends of an earlier link, or two equal AS numbers.
+    /// The network that a draft stands for. A fault comes exactly where the draft stands for no
+    /// valid network, and it is the first in this order (`specs/Faults.antt`): too many devices, or
+    /// links; for each device in order, a name or a router id that an earlier device has, or a
+    /// prefix that its list repeats; too many prefixes, each counted once; for each device and each
+    /// of its peers in order, a name that no device bears, or a peer that stands earlier in the
+    /// device's list; for each link in order, a first or a second end that is unknown, one device
+    /// at both ends, the ends of an earlier link, or two equal AS numbers. A peer that isn't linked
+    /// is no fault.
     pub fn make(alloc: Global, draft: &Draft) -> Result<Net, NetAnswer>
         ensures ok { IfOk result (λ net. draft_of net ≡ draft.now) }
         ensures fault { IfErr result (IfFault (StandsForNone draft.now)) }
         ensures first { TellsFirst (fault_of draft.now) result }
     {
         few_parts(draft.devices.len(), draft.links.len())?;
-        let devices = copied_devices(alloc, draft.devices.items())?;
-        let names = distinct_devices(alloc, &devices)?;
-        few_prefixes(alloc, &devices)?;
+        let drafts = draft.devices.items();
+        let names = distinct_devices(alloc, drafts)?;
+        few_prefixes(alloc, drafts)?;
+        let devices = numbered_devices(alloc, &names, drafts)?;
         let links = joined_links(alloc, &devices, &names, draft.links.items())?;
         let neighbours = neighbours_of(alloc, &links)?;
         Ok(Net {
@@ -66,7 +70,8 @@ impl Net {
         })
     }
 
-    /// Does nothing: a network is valid by its type, and a proof that needs to know so cites this call.
+    /// Does nothing: a network is valid by its type, and a proof that needs to know so cites this
+    /// call.
     pub fn valid(&self)
         ensures { IsValid self.now }
     {
@@ -103,7 +108,9 @@ impl Net {
 
     /// The device that bears this name. None comes exactly where no device does.
     pub fn find(&self, name: &str) -> Option<DeviceId>
-        ensures { MatchOption result ((d : DeviceId) → IsDevice self.now d → name_of self.now d ≢ name.now) (λ d. IsDevice self.now d × (name_of self.now d ≡ name.now)) }
+        ensures { MatchOption result
+            ((d : DeviceId) → IsDevice self.now d → name_of self.now d ≢ name.now)
+            (λ d. IsDevice self.now d × (name_of self.now d ≡ name.now)) }
     {
         match self.names.get_index_of(name) {
             Some(place) => Some(DeviceId(place as u32)),
@@ -131,8 +138,8 @@ impl Net {
         }
     }
 
-    /// The ORIGIN with which a device originates a prefix (RFC 4271, 5.1.1). None comes exactly where it
-    /// doesn't originate the prefix or there is no such device.
+    /// The ORIGIN with which a device originates a prefix (RFC 4271, 5.1.1). None comes exactly
+    /// where it doesn't originate the prefix or there is no such device.
     pub fn own_origin(&self, d: DeviceId, prefix: &Prefix) -> Option<Origin>
         ensures { result ≡ own_origin self.now d prefix.now }
     {
@@ -158,12 +165,13 @@ impl Net {
         }
     }
 
-    /// The links of a device, as that device sees them, in the order of the numbers of its neighbours.
-    /// Empty where there is no such device.
+    /// The links of a device, as that device sees them, in the order of the numbers of its
+    /// neighbours. Empty where there is no such device.
     pub fn neighbours(&self, d: DeviceId) -> &[Neighbour]
         ensures of { All (λ n. n.of ≡ d) result.now }
         ensures links { All (TellsOfLink self.now.links) result.now }
-        ensures linked { (b : DeviceId) → (Any (λ n. n.device ≡ b) result.now ↔ IsLinked self.now d b) }
+        ensures linked { (b : DeviceId)
+            → (Any (λ n. n.device ≡ b) result.now ↔ IsLinked self.now d b) }
         ensures ascending { AllPairs (λ x y. x.device.0 < y.device.0) result.now }
         ensures peers { map (λ n. n.device) result.now ≡ peers_of self.now d }
     {

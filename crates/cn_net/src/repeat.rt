@@ -1,14 +1,14 @@
-//! What may not stand twice: the names and router ids of devices, and the prefixes of one device. The
-//! distinct prefixes of all devices are counted here too.
+//! What may not stand twice in a draft: the names and router ids of its devices, and the prefixes
+//! of one device. The distinct prefixes of all devices are counted here too.
 
 ghost use Rattle.std.specs.Prelude.{◌≡◌, ◌≤◌, ◌||◌, ◌++◌, ◌∷◌, [], length, map, OnOk, IfOk};
 ghost use Rattle.std.specs.List.{list_any};
 ghost use Rattle.cn_base.specs.Cidr.{Cidr, same_prefix};
 ghost use Rattle.cn_net.specs.Faults.{TellsFirst, device_fault, first_in, first_repeat, id_fault, name_fault, prefixes_fault};
-ghost use Rattle.cn_net.specs.Kept.{AreNamesOf};
-ghost use Rattle.cn_net.specs.Numbered.{texts};
+ghost use Rattle.cn_net.specs.Numbered.{texts, written_names};
 
-use crate::device::{Device, Own};
+use crate::device::Own;
+use crate::draft::DeviceDraft;
 use crate::fault::{NetAnswer, NetFault, What};
 use cn_base::{DeviceId, Name, Prefix, RouterId};
 use indexmap::IndexSet;
@@ -58,9 +58,12 @@ fn repeated(alloc: Global, own: &[Own]) -> Result<Option<Prefix>, AllocError>
 
 /// The index of the devices' names. It tries that names and router ids are distinct, and that no
 /// device's list repeats a prefix.
-pub fn distinct_devices(alloc: Global, devices: &[Device]) -> Result<IndexSet<String>, NetAnswer>
+pub fn distinct_devices(
+    alloc: Global,
+    devices: &[DeviceDraft],
+) -> Result<IndexSet<String>, NetAnswer>
     requires { length devices.now ≤ 4096 }
-    ensures ok { IfOk result (λ names. AreNamesOf devices.now names.keys) }
+    ensures ok { IfOk result (λ names. texts names.keys ≡ written_names devices.now) }
     ensures first { TellsFirst (first_in device_fault devices.now) result }
 {
     let mut names = IndexSet::new(alloc);
@@ -80,8 +83,11 @@ pub fn distinct_devices(alloc: Global, devices: &[Device]) -> Result<IndexSet<St
 }
 
 /// Puts those prefixes of a device into the set that aren't in it yet.
-fn add_prefixes(prefixes: &mut IndexSet<Prefix>, own: &[Own]) -> Result<(), AllocError>
-    ensures { OnOk result ((q : Cidr) → list_any (same_prefix q) prefixes.new.keys ≡ (list_any (same_prefix q) prefixes.old.keys || list_any (same_prefix q) (map (λ o. o.prefix) own.now))) }
+pub fn add_prefixes(prefixes: &mut IndexSet<Prefix>, own: &[Own]) -> Result<(), AllocError>
+    ensures { OnOk result ((q : Cidr)
+        → list_any (same_prefix q) prefixes.new.keys
+        ≡ (list_any (same_prefix q) prefixes.old.keys
+        || list_any (same_prefix q) (map (λ o. o.prefix) own.now))) }
 {
     for one in own {
         prefixes.insert(one.prefix)?;
@@ -90,7 +96,7 @@ fn add_prefixes(prefixes: &mut IndexSet<Prefix>, own: &[Own]) -> Result<(), Allo
 }
 
 /// Tries the number of distinct prefixes.
-pub fn few_prefixes(alloc: Global, devices: &[Device]) -> Result<(), NetAnswer>
+pub fn few_prefixes(alloc: Global, devices: &[DeviceDraft]) -> Result<(), NetAnswer>
     ensures { TellsFirst (prefixes_fault devices.now) result }
 {
     let mut prefixes = IndexSet::new(alloc);

@@ -1,12 +1,13 @@
 //! Sets of devices, and the labels of islands.
 
-ghost use Rattle.std.specs.Prelude.{◌≡◌, ◌<◌, ◌^◌, All, length};
+ghost use Rattle.std.specs.Prelude.{◌≡◌, ◌<◌, ◌^◌, All, IfOk, length};
 ghost use Rattle.cn_base.specs.declared.ids.DeviceId.{DeviceId as DeviceNumber};
 ghost use Rattle.cn_net.specs.Islands.{IsAscending, label_of, holds_device};
 ghost use Rattle.cn_net.specs.Network.{IsDevice};
 
 use crate::net::Net;
 use cn_base::DeviceId;
+use std::alloc::{AllocError, Global};
 use std::marker::Model;
 
 /// Devices, by number, ascending and without repeats. Contracts see the list of their numbers.
@@ -28,8 +29,8 @@ impl Model for DeviceSet {
 }
 
 impl DeviceSet {
-    /// The set of these devices of the network, in whatever order and however often they stand there.
-    /// It takes no memory.
+    /// The set of these devices of the network, in whatever order and however often they stand
+    /// there. It takes no memory.
     pub fn make(net: &Net, devices: Vec<DeviceId>) -> DeviceSet
         requires { All (IsDevice net.now) devices.items }
         ensures holds { (d : DeviceNumber) → holds_device result d ≡ holds_device devices.items d }
@@ -48,6 +49,14 @@ impl DeviceSet {
         ensures ascending { IsAscending self.now }
     {
         self.devices.as_slice()
+    }
+
+    /// An equal set. Err comes only for want of memory.
+    pub fn copy(&self, alloc: Global) -> Result<DeviceSet, AllocError>
+        ensures { IfOk result (λ set. set ≡ self.now) }
+    {
+        let devices = Vec::from_slice(alloc, self.devices.as_slice())?;
+        Ok(DeviceSet { devices })
     }
 
     /// How many devices there are in the set.
@@ -87,6 +96,21 @@ impl Labels {
         ensures { result ≡ numbers.items }
     {
         Labels { numbers }
+    }
+
+    /// The devices' entries, in the order of their numbers.
+    pub fn items(&self) -> &[Option<DeviceId>]
+        ensures { result.now ≡ self.now }
+    {
+        self.numbers.as_slice()
+    }
+
+    /// Equal labels. Err comes only for want of memory.
+    pub fn copy(&self, alloc: Global) -> Result<Labels, AllocError>
+        ensures { IfOk result (λ labels. labels ≡ self.now) }
+    {
+        let numbers = Vec::from_slice(alloc, self.numbers.as_slice())?;
+        Ok(Labels { numbers })
     }
 
     /// The label of a device. None comes exactly where the device has none.

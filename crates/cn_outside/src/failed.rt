@@ -40,10 +40,11 @@ impl FailedCalls {
         }
     }
 
-    /// Takes the memory for one more entry before its call is made: a copy of the name, and a place.
-    /// An Err is want of memory.
+    /// Takes the memory for one more entry before its call is made: a copy of the name, and a
+    /// place. An Err is want of memory.
     pub fn place(&mut self, alloc: Global, name: &str) -> Result<String, AllocError>
-        ensures same { (kind : CallKind) → SameAtEach (failures kind self.old) (failures kind self.new) }
+        ensures same { (kind : CallKind)
+            → SameAtEach (failures kind self.old) (failures kind self.new) }
         ensures room { OnOk result (HasRoom self.new) }
         ensures name { IfOk result (λ copy. string_bytes copy ≡ name.now) }
     {
@@ -55,9 +56,12 @@ impl FailedCalls {
     /// Adds a call that failed, at the place that `place` took.
     pub fn note(&mut self, kind: CallKind, name: String)
         requires { HasRoom self.old }
-        ensures rises { failures kind self.new (string_bytes name) ≡ failures kind self.old (string_bytes name) + 1 }
-        ensures only { RisesOnlyAt (string_bytes name) (failures kind self.old) (failures kind self.new) }
-        ensures other_kind { (other : CallKind) → same_kind other kind ≡ false → SameAtEach (failures other self.old) (failures other self.new) }
+        ensures rises { failures kind self.new (string_bytes name)
+            ≡ failures kind self.old (string_bytes name) + 1 }
+        ensures only { RisesOnlyAt (string_bytes name) (failures kind self.old)
+            (failures kind self.new) }
+        ensures other_kind { (other : CallKind) → same_kind other kind ≡ false
+            → SameAtEach (failures other self.old) (failures other self.new) }
     {
         self.calls.push(FailedCall { kind, name }).unwrap();
     }

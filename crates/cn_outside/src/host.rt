@@ -60,7 +60,8 @@ fn read_file<R: Files>(
     Err(ReadAnswer::Failed)
 }
 
-/// Writes all the bytes, and says whether that succeeded. A write that takes none of them is a failure.
+/// Writes all the bytes, and says whether that succeeded. A write that takes none of them is a
+/// failure.
 fn write_all_of<W: Write>(to: &mut W, bytes: &[u8]) -> bool {
     let mut done = 0usize;
     while done < bytes.len() {

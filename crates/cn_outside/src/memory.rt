@@ -10,8 +10,8 @@ use crate::{Out, ReadAnswer, Shelf, WriteAnswer};
 use std::alloc::{AllocError, Global};
 use std::collections::BTreeMap;
 
-/// The call with this number, counted from 1, fails. A put takes so many bytes before it fails, or all
-/// of its own if those are fewer.
+/// The call with this number, counted from 1, fails. A put takes so many bytes before it fails, or
+/// all of its own if those are fewer.
 #[derive(Clone, Copy, Debug)]
 pub struct Trip {
     pub call: u32,
@@ -57,14 +57,15 @@ impl MemoryShelf {
         }
     }
 
-    /// Puts the bytes under the name. It isn't counted as a call and can't be made to fail: an Err is
-    /// want of memory.
+    /// Puts the bytes under the name. It isn't counted as a call and can't be made to fail: an Err
+    /// is want of memory.
     pub fn hold(&mut self, alloc: Global, name: &str, bytes: &[u8]) -> Result<(), AllocError>
         ensures ok { OnOk result (memory_held self.new name.now ≡ Some bytes.now) }
         ensures others { SameBut name.now (memory_held self.old) (memory_held self.new) }
         ensures err { OnErr result (SameAtEach (memory_held self.old) (memory_held self.new)) }
         ensures reads { SameAtEach (memory_failures Read self.old) (memory_failures Read self.new) }
-        ensures writes { SameAtEach (memory_failures Write self.old) (memory_failures Write self.new) }
+        ensures writes { SameAtEach (memory_failures Write self.old)
+            (memory_failures Write self.new) }
     {
         let name = String::from_str(alloc, name)?;
         let bytes = bytes.to_vec(alloc)?;
@@ -76,7 +77,8 @@ impl MemoryShelf {
     pub fn trip(&mut self, trips: Vec<Trip>)
         ensures held { SameAtEach (memory_held self.old) (memory_held self.new) }
         ensures reads { SameAtEach (memory_failures Read self.old) (memory_failures Read self.new) }
-        ensures writes { SameAtEach (memory_failures Write self.old) (memory_failures Write self.new) }
+        ensures writes { SameAtEach (memory_failures Write self.old)
+            (memory_failures Write self.new) }
     {
         self.trips = trips;
     }
@@ -90,7 +92,8 @@ pub fn text_of(
     limit: usize,
 ) -> Result<Vec<u8>, ReadAnswer>
     ensures within { IfOk result (λ bytes. length bytes.items ≤ limit) }
-    ensures content { ReadsHeld (option_map (λ v. v.items) (get_by_text files.now name.now)) limit result }
+    ensures content { ReadsHeld (option_map (λ v. v.items) (get_by_text files.now name.now)) limit
+        result }
     ensures absent { IsErrOf result ReadAnswer.Failed → get_by_text files.now name.now ≡ None }
     ensures limit { IfErr result (NamesLimit limit) }
 {

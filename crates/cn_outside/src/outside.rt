@@ -27,9 +27,9 @@ pub enum WriteAnswer {
 
 /// Texts under names, which can be read and written. A name is the octets of a `str`.
 ///
-/// A clause that begins with `IsTrue tells` speaks of shelves that tell what they hold. The clauses on
-/// counts hold of every shelf: no count falls, and a call raises no count but that of its own kind at
-/// its own name.
+/// A clause that begins with `IsTrue tells` speaks of shelves that tell what they hold. The clauses
+/// on counts hold of every shelf: no count falls, and a call raises no count but that of its own
+/// kind at its own name.
 pub trait Shelf {
     /// Whether shelves of this type tell what their names hold.
     ghost tells: { Bool };
@@ -43,9 +43,9 @@ pub trait Shelf {
     /// How many writes of a name failed so far.
     ghost write_faults: { Self → List ℕ → ℕ };
 
-    /// All that the name holds, at most `limit` bytes. It leaves what every name holds. `Failed` comes
-    /// only where the name's count of failed reads rose in this call, and `TooLong`, with the limit of
-    /// this call, only where the name holds more bytes.
+    /// All that the name holds, at most `limit` bytes. It leaves what every name holds. `Failed`
+    /// comes only where the name's count of failed reads rose in this call, and `TooLong`, with the
+    /// limit of this call, only where the name holds more bytes.
     fn read(&mut self, alloc: Global, name: &str, limit: usize) -> Result<Vec<u8>, ReadAnswer>
         ensures within { IfOk result (λ bytes. length bytes.items ≤ limit) }
         ensures content { IsTrue tells → ReadsHeld (held self.old name.now) limit result }
@@ -53,17 +53,20 @@ pub trait Shelf {
         ensures same { SameAtEach (held self.old) (held self.new) }
         ensures reads { RisesOnlyAt name.now (read_faults self.old) (read_faults self.new) }
         ensures writes { SameAtEach (write_faults self.old) (write_faults self.new) }
-        ensures cause { HasReadCause (read_faults self.old name.now) (read_faults self.new name.now) result };
+        ensures cause { HasReadCause (read_faults self.old name.now) (read_faults self.new name.now)
+            result };
 
     /// Puts these bytes under the name, in the place of what it held. `Failed` comes only where the
-    /// name's count of failed writes rose in this call, and nothing is said then of what the name holds.
-    /// After `Memory` every name holds what it held.
+    /// name's count of failed writes rose in this call, and nothing is said then of what the name
+    /// holds. After `Memory` every name holds what it held.
     fn write(&mut self, alloc: Global, name: &str, bytes: &[u8]) -> Result<(), WriteAnswer>
-        ensures content { IsTrue tells → WritesHeld bytes.now (held self.old name.now) (held self.new name.now) result }
+        ensures content { IsTrue tells
+            → WritesHeld bytes.now (held self.old name.now) (held self.new name.now) result }
         ensures others { SameBut name.now (held self.old) (held self.new) }
         ensures reads { SameAtEach (read_faults self.old) (read_faults self.new) }
         ensures writes { RisesOnlyAt name.now (write_faults self.old) (write_faults self.new) }
-        ensures cause { HasWriteCause (write_faults self.old name.now) (write_faults self.new name.now) result };
+        ensures cause { HasWriteCause (write_faults self.old name.now)
+            (write_faults self.new name.now) result };
 }
 
 /// What takes the bytes that a program prints.
@@ -77,10 +80,12 @@ pub trait Out {
     /// How many puts failed so far.
     ghost faults: { Self → ℕ };
 
-    /// Takes these bytes, after those that it took before. After `Failed`, which comes only where the
-    /// count rose in this call, it has taken some of them, from their front; after `Memory` none.
+    /// Takes these bytes, after those that it took before. After `Failed`, which comes only where
+    /// the count rose in this call, it has taken some of them, from their front; after `Memory`
+    /// none.
     fn put(&mut self, alloc: Global, bytes: &[u8]) -> Result<(), WriteAnswer>
-        ensures bytes { IsTrue tells → PutsBytes bytes.now (taken self.old) (taken self.new) result }
+        ensures bytes { IsTrue tells
+            → PutsBytes bytes.now (taken self.old) (taken self.new) result }
         ensures later { faults self.old ≤ faults self.new }
         ensures cause { HasWriteCause (faults self.old) (faults self.new) result };
 }

@@ -10,7 +10,8 @@ use crate::{Out, ReadAnswer, Shelf, WriteAnswer};
 use std::alloc::{AllocError, Global};
 use std::collections::BTreeMap;
 
-/// A shelf in memory. It tells what it holds, and no call fails but a read of a name that isn't held.
+/// A shelf in memory. It tells what it holds, and no call fails but a read of a name that isn't
+/// held.
 #[derive(Drop)]
 pub struct SureShelf {
     files: BTreeMap<String, Vec<u8>>,
@@ -60,8 +61,10 @@ impl Shelf for SureShelf {
         ensures limit { IfErr result (NamesLimit limit) }
         ensures same { SameAtEach (sure_held self.old) (sure_held self.new) }
         ensures reads { RisesOnlyAt name.now (sure_failures self.old) (sure_failures self.new) }
-        ensures cause { HasReadCause (sure_failures self.old name.now) (sure_failures self.new name.now) result }
-        ensures sure { IsSome (sure_held self.old name.now) → SameAtEach (sure_failures self.old) (sure_failures self.new) }
+        ensures cause { HasReadCause (sure_failures self.old name.now)
+            (sure_failures self.new name.now) result }
+        ensures sure { IsSome (sure_held self.old name.now)
+            → SameAtEach (sure_failures self.old) (sure_failures self.new) }
     {
         let entry = self.failed.place(alloc, name)?;
         match text_of(alloc, &self.files, name, limit) {

@@ -1,4 +1,3 @@
 pub mod Same
-pub mod Order
 pub mod Room
 pub mod Fullest

@@ -8,11 +8,14 @@ use Rattle.cn_wire.specs.Numbers.{octets_for, four_octets}
 use Rattle.cn_wire.specs.Sizes.{fitting}
 use Rattle.cn_wire.specs.Writing.{spelled_prefix, spelled_prefixes}
 
-flat_prefixes : (p : Cidr) (ps : List Cidr) → spelled_prefixes (p ∷ ps) ≡ spelled_prefix p ++ spelled_prefixes ps
+flat_prefixes : (p : Cidr) (ps : List Cidr)
+    → spelled_prefixes (p ∷ ps) ≡ spelled_prefix p ++ spelled_prefixes ps
 flat_prefixes p ps = rw flat_map-cons refl
 
-size_cons : (p : Cidr) (ps : List Cidr) → length (spelled_prefixes (p ∷ ps)) ≡ length (spelled_prefix p) + length (spelled_prefixes ps)
-size_cons p ps = ap length (flat_prefixes p ps) ∙ length-append (spelled_prefix p) (spelled_prefixes ps)
+size_cons : (p : Cidr) (ps : List Cidr)
+    → length (spelled_prefixes (p ∷ ps)) ≡ length (spelled_prefix p) + length (spelled_prefixes ps)
+size_cons p ps =
+    ap length (flat_prefixes p ps) ∙ length-append (spelled_prefix p) (spelled_prefixes ps)
 
 -- taken is a front of ps that the room holds, and the room holds no longer one
 pub record IsLongest (room : ℕ) (ps taken : List Cidr) : Type 0 where
@@ -22,21 +25,28 @@ pub record IsLongest (room : ℕ) (ps taken : List Cidr) : Type 0 where
   pub held : length (spelled_prefixes (take count ps)) ≤ room
   pub more : (j : ℕ) → count < j → j ≤ length ps → room < length (spelled_prefixes (take j ps))
 
-longer : (room : ℕ) (p : Cidr) (ps : List Cidr) (k j : ℕ) → length (spelled_prefix p) ≤ room → ((i : ℕ) → k < i → i ≤ length ps → room - length (spelled_prefix p) < length (spelled_prefixes (take i ps)))
+longer : (room : ℕ) (p : Cidr) (ps : List Cidr) (k j : ℕ) → length (spelled_prefix p) ≤ room
+    → ((i : ℕ) → k < i → i ≤ length ps
+    → room - length (spelled_prefix p) < length (spelled_prefixes (take i ps)))
     → suc k < j → j ≤ length (p ∷ ps) → room < length (spelled_prefixes (take j (p ∷ ps)))
 longer room p ps k zero le h lt few = absurd (omega arith)
 longer room p ps k (suc j) le h lt few =
-    let x : room - length (spelled_prefix p) < length (spelled_prefixes (take j ps)) = h j (omega arith) (omega arith) in
+    let x : room - length (spelled_prefix p) < length (spelled_prefixes (take j ps)) =
+    h j (omega arith) (omega arith) in
     let l = size_cons p (take j ps) in
     omega arith
 
-too_much : (room : ℕ) (p : Cidr) (ps : List Cidr) (j : ℕ) → room < length (spelled_prefix p) → 0 < j → room < length (spelled_prefixes (take j (p ∷ ps)))
+too_much : (room : ℕ) (p : Cidr) (ps : List Cidr) (j : ℕ) → room < length (spelled_prefix p) → 0 < j
+    → room < length (spelled_prefixes (take j (p ∷ ps)))
 too_much room p ps zero lt above = absurd (omega arith)
 too_much room p ps (suc j) lt above =
     let l = size_cons p (take j ps) in
     omega arith
 
-longest_by : (room : ℕ) (p : Cidr) (ps : List Cidr) (b : Bool) → leb (length (spelled_prefix p)) room ≡ b → IsLongest (room - length (spelled_prefix p)) ps (fitting (room - length (spelled_prefix p)) ps)
+longest_by : (room : ℕ) (p : Cidr) (ps : List Cidr) (b : Bool)
+    → leb (length (spelled_prefix p)) room ≡ b
+    → IsLongest (room - length (spelled_prefix p)) ps
+    (fitting (room - length (spelled_prefix p)) ps)
     → IsLongest room (p ∷ ps) (cond b (p ∷ fitting (room - length (spelled_prefix p)) ps) [])
 longest_by room p ps true e h =
     let le = leb-true (length (spelled_prefix p)) room e in
@@ -49,17 +59,34 @@ longest_by room p ps true e h =
     }
 longest_by room p ps false e h =
     let lt = leb-false (length (spelled_prefix p)) room e in
-    record { count = 0; within = omega arith; front = refl; held = omega arith; more = λ j above few. too_much room p ps j lt above }
+    record {
+      count = 0;
+      within = omega arith;
+      front = refl;
+      held = omega arith;
+      more = λ j above few. too_much room p ps j lt above;
+    }
 
+-- the prefixes that fit are the longest front that the room holds
 pub fitting_is_longest : (room : ℕ) (ps : List Cidr) → IsLongest room ps (fitting room ps)
-fitting_is_longest room [] = record { count = 0; within = omega arith; front = refl; held = omega arith; more = λ j lt few. absurd (omega arith) }
-fitting_is_longest room (p ∷ ps) = longest_by room p ps (leb (length (spelled_prefix p)) room) refl (fitting_is_longest (room - length (spelled_prefix p)) ps)
+fitting_is_longest room [] = record {
+  count = 0;
+  within = omega arith;
+  front = refl;
+  held = omega arith;
+  more = λ j lt few. absurd (omega arith);
+}
+fitting_is_longest room (p ∷ ps) =
+    longest_by room p ps (leb (length (spelled_prefix p)) room) refl
+    (fitting_is_longest (room - length (spelled_prefix p)) ps)
 
 -- a prefix takes at most five octets
 prefix_few : (p : Cidr) → length (spelled_prefix p) ≤ 5
 prefix_few p = omega (arith, length-take (octets_for p.len) (four_octets p.bits))
 
-first_fits_by : (room : ℕ) (p : Cidr) (ps : List Cidr) (b : Bool) → leb (length (spelled_prefix p)) room ≡ b → 5 ≤ room → 0 < length (cond b (p ∷ fitting (room - length (spelled_prefix p)) ps) [])
+first_fits_by : (room : ℕ) (p : Cidr) (ps : List Cidr) (b : Bool)
+    → leb (length (spelled_prefix p)) room ≡ b → 5 ≤ room
+    → 0 < length (cond b (p ∷ fitting (room - length (spelled_prefix p)) ps) [])
 first_fits_by room p ps true e le = omega arith
 first_fits_by room p ps false e le =
     let lt = leb-false (length (spelled_prefix p)) room e in
@@ -67,6 +94,8 @@ first_fits_by room p ps false e le =
     absurd (omega arith)
 
 -- where there is a prefix, the room holds one
-pub first_fits : (room : ℕ) (ps : List Cidr) → 5 ≤ room → 0 < length ps → 0 < length (fitting room ps)
+pub first_fits : (room : ℕ) (ps : List Cidr) → 5 ≤ room → 0 < length ps
+    → 0 < length (fitting room ps)
 first_fits room [] le lt = absurd (omega arith)
-first_fits room (p ∷ ps) le lt = first_fits_by room p ps (leb (length (spelled_prefix p)) room) refl le
+first_fits room (p ∷ ps) le lt =
+    first_fits_by room p ps (leb (length (spelled_prefix p)) room) refl le

@@ -64,14 +64,17 @@ pub record IsFullest (saying : List Cidr → Update) (ps : List Cidr) (u : Updat
 -- all of these are to be announced: the first is, and those with its path and its ORIGIN
 abbrev pub IsAnnounced : Option (List Asn × Origin) → List Owed → ℕ → Update → Type 0
 IsAnnounced None owed next_hop u = ⊥
-IsAnnounced (Some w) owed next_hop u = IsFullest (announcing (record { origin = w.1; path = w.0; next_hop = next_hop })) (likewise w.0 w.1 owed) u
+IsAnnounced (Some w) owed next_hop u =
+    IsFullest (announcing (record { origin = w.1; path = w.0; next_hop = next_hop }))
+    (likewise w.0 w.1 owed) u
 
 abbrev pub IsPackedBy : List Cidr → List Owed → ℕ → Update → Type 0
 IsPackedBy (p ∷ ps) owed next_hop u = IsFullest withdrawing (p ∷ ps) u
 IsPackedBy [] (o ∷ os) next_hop u = IsAnnounced o.wanted (o ∷ os) next_hop u
 IsPackedBy [] [] next_hop u = ⊥
 
--- The message withdraws where a withdrawal is owed, and else announces. Where nothing is owed, there is none.
+-- The message withdraws where a withdrawal is owed, and else announces. Where nothing is owed,
+-- there is none.
 abbrev pub IsPacked : List Owed → ℕ → Update → Type 0
 IsPacked owed next_hop u = IsPackedBy (withdrawals owed) owed next_hop u
 
@@ -84,7 +87,9 @@ abbrev pub announced_by : Option (List Asn × Origin) → List Owed → ℕ → 
 announced_by None owed next_hop = nothing
 announced_by (Some w) owed next_hop =
     announcing (record { origin = w.1; path = w.0; next_hop = next_hop })
-    (fitting (4073 - length (spelled_attrs (Some (record { origin = w.1; path = w.0; next_hop = next_hop })))) (likewise w.0 w.1 owed))
+    (fitting (4073
+    - length (spelled_attrs (Some (record { origin = w.1; path = w.0; next_hop = next_hop }))))
+    (likewise w.0 w.1 owed))
 
 abbrev pub packed_by : List Cidr → List Owed → ℕ → Update
 packed_by (p ∷ ps) owed next_hop = withdrawing (fitting 4073 (p ∷ ps))

@@ -5,8 +5,8 @@ ghost use Rattle.cn_pack.specs.Packing.{Ascends, wants, same_numbers};
 
 use cn_base::{AsPath, Origin, Prefix};
 
-/// A prefix that is owed: the path and the ORIGIN with which it is to be announced, or none where it is to
-/// be withdrawn.
+/// A prefix that is owed: the path and the ORIGIN with which it is to be announced, or none where
+/// it is to be withdrawn.
 #[derive(Debug, Drop)]
 pub struct Owed {
     pub prefix: Prefix,

@@ -40,8 +40,8 @@ fn withdrawn_of(alloc: Global, owed: &[Owed]) -> Result<Vec<Prefix>, AllocError>
     Ok(withdrawn)
 }
 
-// The prefixes that are to be announced with this path and this ORIGIN, as many of the first as the room
-// holds.
+// The prefixes that are to be announced with this path and this ORIGIN, as many of the first as the
+// room holds.
 fn announced_of(
     alloc: Global,
     room: usize,
@@ -66,7 +66,8 @@ fn announced_of(
     Ok(announced)
 }
 
-// The message that announces with this path and this ORIGIN; none where the first prefix is to be withdrawn.
+// The message that announces with this path and this ORIGIN; none where the first prefix is to be
+// withdrawn.
 fn announcing(
     alloc: Global,
     wanted: &Option<(AsPath, Origin)>,
@@ -74,7 +75,9 @@ fn announcing(
     next_hop: u32,
 ) -> Result<Update, AllocError>
     ensures gives { IfOk result (λ u. u ≡ announced_by wanted.now owed.now next_hop) }
-    ensures small { IfOk result (λ _. IfSome wanted.now (λ w. length (spelled_attrs (Some (record { origin = w.1; path = w.0; next_hop = next_hop }))) ≤ 1037)) }
+    ensures small { IfOk result (λ _. IfSome wanted.now (λ w. length
+        (spelled_attrs (Some (record { origin = w.1; path = w.0; next_hop = next_hop })))
+        ≤ 1037)) }
 {
     match wanted {
         None => Ok(Update {
@@ -99,9 +102,10 @@ fn announcing(
     }
 }
 
-/// The message of the packing rule. Where a withdrawal is owed, it withdraws the owed withdrawals in their
-/// order, as many of the first as fit. Otherwise it announces the first prefix and, in their order, those
-/// with the same path and ORIGIN, as many of the first as fit. It has at most 4,096 octets (RFC 4271, 4.1).
+/// The message of the packing rule. Where a withdrawal is owed, it withdraws the owed withdrawals
+/// in their order, as many of the first as fit. Otherwise it announces the first prefix and, in
+/// their order, those with the same path and ORIGIN, as many of the first as fit. It has at most
+/// 4,096 octets (RFC 4271, 4.1).
 pub fn next_message(alloc: Global, owed: &[Owed], next_hop: u32) -> Result<Update, AllocError>
     requires some { 0 < length owed.now }
     requires ascends { Ascends owed.now }

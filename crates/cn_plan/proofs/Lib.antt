@@ -1,5 +1,4 @@
 pub mod Boundaries
 pub mod SameRows
 pub mod Rows
-pub mod Counting
 pub mod Steps

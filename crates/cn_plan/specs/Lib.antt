@@ -1,3 +1,3 @@
 pub mod Boundary
-pub mod Limits
+pub mod Selected
 pub mod Planned

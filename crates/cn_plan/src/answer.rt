@@ -3,10 +3,9 @@
 ghost use Rattle.std.specs.Prelude.{◌≡◌};
 ghost use Rattle.cn_plan.specs.declared.answer.PlanAnswer.TheVariants.{Memory};
 
-use crate::limits::TooMany;
 use cn_base::{Choice, DeviceId, Prefix};
 use cn_cert::Refusal;
-use cn_net::Net;
+use cn_net::{Net, What};
 use cn_record::Recorded;
 use std::alloc::AllocError;
 
@@ -16,14 +15,14 @@ pub struct Plan {
     pub recorded: Recorded,
 }
 
-/// Why there is no plan, in the order in which it is looked for: there is too much of something, and how
-/// much; the first refusal of the certificate; the first device and prefix whose record isn't sound, what is
-/// recorded and what the device holds. The network is handed back with a refusal and with an unsound record.
-/// For want of memory nothing is said.
+/// Why there is no plan, in the order in which it is looked for: there is too much of something,
+/// and how much; the first refusal of the certificate; the first device and prefix whose record
+/// isn't sound, what is recorded and what the device holds. The network is handed back with a
+/// refusal and with an unsound record. For want of memory nothing is said.
 #[derive(Debug, Drop)]
 pub enum PlanAnswer {
     TooMany {
-        what: TooMany,
+        what: What,
         count: u64,
     },
     Refused {

@@ -4,15 +4,14 @@ ghost use Rattle.std.specs.Prelude.{◌≡◌, All, IfErr, IfOk};
 ghost use Rattle.cn_net.specs.Islands.{outside_of};
 ghost use Rattle.cn_net.specs.Network.{IsDevice};
 ghost use Rattle.cn_record.specs.Recorded.{SaysSound};
-ghost use Rattle.cn_plan.specs.Limits.{named};
+ghost use Rattle.cn_plan.specs.Selected.{named};
 ghost use Rattle.cn_plan.specs.Planned.{AnswersBoundary, AnswersPlan, AnswersRecords, IsPlan, IsPlanWith, uncertified_answer, unrecorded_answer};
 
 use crate::answer::{Plan, PlanAnswer};
-use crate::limits::passed;
 use crate::selection::{Selection, selected};
 use cn_cert::{CertWhy, Uncertified, certify};
 use cn_island::islands;
-use cn_net::{Certified, DeviceSet, Net};
+use cn_net::{Certified, DeviceSet, Net, passed_limit};
 use cn_record::{RecordWhy, Saved, Unrecorded, check};
 use std::alloc::Global;
 
@@ -43,7 +42,8 @@ fn unrecorded(refused: Unrecorded) -> PlanAnswer
 
 // The plan of a certified opening, where these records are sound.
 fn recorded(alloc: Global, certified: Certified, saved: Saved) -> Result<Plan, PlanAnswer>
-    ensures ok { IfOk result (λ plan. (plan.recorded ≡ record { opening = certified; rows = saved }) × SaysSound certified saved) }
+    ensures ok { IfOk result (λ plan. (plan.recorded ≡ record { opening = certified; rows = saved })
+        × SaysSound certified saved) }
     ensures answer { IfErr result (AnswersRecords certified saved) }
 {
     match check(alloc, certified, saved) {
@@ -80,16 +80,16 @@ fn boundary(alloc: Global, net: Net, emulated: DeviceSet, saved: Saved) -> Resul
     }
 }
 
-/// The plan of a network, of which this is selected and these rows are recorded. The devices that the
-/// selection names are devices of the network. Looked at are first the limits, then the certificate, then
-/// the records; an answer names the first that fails.
+/// The plan of a network, of which this is selected and these rows are recorded. The devices that
+/// the selection names are devices of the network. Looked at are first the limits, then the
+/// certificate, then the records; an answer names the first that fails.
 pub fn plan(alloc: Global, net: Net, selection: Selection, saved: Saved) -> Result<Plan, PlanAnswer>
     requires { All (IsDevice net) (named selection) }
     ensures ok { IfOk result (λ plan. IsPlan net selection saved plan.recorded) }
     ensures answer { IfErr result (AnswersPlan net selection saved) }
 {
     let emulated = selected(alloc, &net, selection)?;
-    match passed(alloc, &net, &emulated)? {
+    match passed_limit(alloc, &net, &emulated)? {
         Some(excess) => Err(PlanAnswer::TooMany {
             what: excess.what,
             count: excess.count,

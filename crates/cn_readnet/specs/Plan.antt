@@ -1,5 +1,6 @@
 -- The plan that a text stands for, or its first fault.
--- Of a table its keys are read in the order that stands here, and after them a key that isn't listed is a fault.
+-- Of a table its keys are read in the order that stands here, and after them a key that isn't
+-- listed is a fault.
 use Rattle.std.specs.Prelude.{ℕ, ℤ, pos, true, if◌then◌else◌, codes, List, [], ◌∷◌, ◌++◌, Option, Some, None, ok_or, Result, Ok, Err}
 use Rattle.std.specs.Ordering.{int_eq}
 use Rattle.toml.specs.Data.{Data, Members, get_member, as_array}
@@ -10,7 +11,7 @@ use Rattle.cn_net.specs.declared.draft.LinkDraft.{LinkDraft}
 use Rattle.cn_text.specs.declared.answer.TextAnswer.{TextAnswer}
 use Rattle.cn_text.specs.declared.answer.TextAnswer.TheVariants.{Key, Shape, Version}
 use Rattle.cn_table.specs.Document.{document_of}
-use Rattle.cn_table.specs.Reading.{◌>>=◌}
+use Rattle.cn_lists.specs.Steps.{◌>>=◌}
 use Rattle.cn_table.specs.Tables.{front_of, needed, integer_of, table_of, name_in, name_at, name_if_at, address_at, prefix_in, prefix_at, path_at, origin_at, number_at, array_at, each, only}
 use Rattle.cn_readnet.specs.declared.plan.NetText.{NetText}
 use Rattle.cn_readnet.specs.declared.record.RowDraft.{RowDraft}
@@ -32,7 +33,8 @@ own_at front ms = do
 abbrev pub device_keys : List (List ℕ)
 device_keys = codes "name" ∷ codes "layer" ∷ codes "asn" ∷ codes "id" ∷ codes "own" ∷ []
 
--- a device: its AS number is not 0 (RFC 7607), and its BGP Identifier is written as an address
+-- a device, which lists no peers: its AS number is not 0 (RFC 7607), and its BGP Identifier is
+-- written as an address
 unfoldable pub device_in : List ℕ → Members → Result DeviceDraft TextAnswer
 device_in front ms = do
   name ← name_at front (codes "name") ms
@@ -41,7 +43,12 @@ device_in front ms = do
   id ← address_at front (codes "id") ms
   own ← own_at front ms
   no_more ← only front device_keys ms
-  Ok (record { name = name; layer = layer; id = record { 0 = id }; body = record { asn = record { 0 = asn }; own = own } })
+  Ok (record {
+    name = name;
+    layer = layer;
+    id = record { 0 = id };
+    body = record { asn = record { 0 = asn }; own = own; peers = [] };
+  })
 
 unfoldable pub device_of : List ℕ → Data → Result DeviceDraft TextAnswer
 device_of path d = do
@@ -144,7 +151,9 @@ records_at ms = do
   each record_of (codes "record") 0 items
 
 abbrev pub plan_keys : List (List ℕ)
-plan_keys = codes "version" ∷ codes "must" ∷ codes "emulate" ∷ codes "device" ∷ codes "link" ∷ codes "record" ∷ []
+plan_keys =
+    codes "version" ∷ codes "must" ∷ codes "emulate" ∷ codes "device" ∷ codes "link"
+    ∷ codes "record" ∷ []
 
 -- the top table has the keys of a plan alone
 unfoldable pub only_plan_keys : Members → Result (Unit {0}) TextAnswer
@@ -158,7 +167,11 @@ plan_in ms = do
   links ← links_at ms
   rows ← records_at ms
   no_more ← only_plan_keys ms
-  Ok (record { draft = record { devices = devices; links = links }; selection = selection; rows = rows })
+  Ok (record {
+    draft = record { devices = devices; links = links };
+    selection = selection;
+    rows = rows;
+  })
 
 -- the plan that bytes stand for, by the table that they are as TOML
 unfoldable pub plan_of : List ℕ → Result NetText TextAnswer

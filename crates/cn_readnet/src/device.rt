@@ -55,7 +55,11 @@ fn device_in(alloc: Global, front: &[u8], table: &Table) -> Result<DeviceDraft, 
         name,
         layer: layer as u8,
         id: RouterId(id),
-        body: BodyDraft { asn: Asn(asn), own },
+        body: BodyDraft {
+            asn: Asn(asn),
+            own,
+            peers: Items::make(Vec::new(alloc)),
+        },
     })
 }
 

@@ -1,12 +1,12 @@
-//! The plan that a text stands for: devices and links as they are written, the names that select the
-//! emulated devices, and the records of outside devices.
+//! The plan that a text stands for: devices and links as they are written, the names that select
+//! the emulated devices, and the records of outside devices.
 //!
-//! `specs/Plan.antt` has the format, one definition a table, with its keys in the order in which they
-//! are read and their faults are told: `plan_of` gives the plan or the first fault of any bytes. It
-//! stands on `cn_table` for the table that the bytes are as TOML (`specs/Document.antt`) and for its
-//! values (`specs/Tables.antt`). `read_net` computes it. Whether the draft stands for a network, and
-//! whether the names that select devices and those in records are of devices, is left to the crates
-//! above.
+//! `specs/Plan.antt` has the format, one definition a table, with its keys in the order in which
+//! they are read and their faults are told: `plan_of` gives the plan or the first fault of any
+//! bytes. It stands on `cn_table` for the table that the bytes are as TOML (`specs/Document.antt`)
+//! and for its values (`specs/Tables.antt`). `read_net` computes it. Whether the draft stands for a
+//! network, and whether the names that select devices and those in records are of devices, is left
+//! to the crates above.
 #![tactic(auto)]
 
 mod device;

@@ -16,8 +16,8 @@ use cn_text::TextAnswer;
 use std::alloc::Global;
 use toml::Table;
 
-/// A plan as it is written: a network, the names that select the emulated devices, and the records of
-/// outside devices, each in the plan's order.
+/// A plan as it is written: a network, the names that select the emulated devices, and the records
+/// of outside devices, each in the plan's order.
 #[derive(Debug, Drop)]
 pub struct NetText {
     pub draft: Draft,
@@ -67,8 +67,9 @@ fn plan_in(alloc: Global, table: &Table) -> Result<NetText, TextAnswer>
     })
 }
 
-/// The plan that the bytes stand for, or their first fault: bytes that aren't UTF-8, a text that isn't
-/// TOML, and then, depth first, the keys in the order of the format. Memory may run out instead.
+/// The plan that the bytes stand for, or their first fault: bytes that aren't UTF-8, a text that
+/// isn't TOML, and then, depth first, the keys in the order of the format. Memory may run out
+/// instead.
 #[tactic(auto, unfolding(crate::specs::Plan::plan_of))]
 pub fn read_net(alloc: Global, bytes: &[u8]) -> Result<NetText, TextAnswer>
     ensures { Reads result (plan_of bytes.now) }

@@ -14,8 +14,8 @@ use cn_text::TextAnswer;
 use std::alloc::Global;
 use toml::{Table, Value};
 
-/// What a device holds for a prefix, by names: the AS_PATH and the ORIGIN, and the device that sent it.
-/// Without a sender the route is the device's own.
+/// What a device holds for a prefix, by names: the AS_PATH and the ORIGIN, and the device that sent
+/// it. Without a sender the route is the device's own.
 #[derive(Debug, Drop)]
 pub struct RowDraft {
     pub device: Name,

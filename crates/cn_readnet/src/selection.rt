@@ -11,8 +11,8 @@ use cn_text::TextAnswer;
 use std::alloc::Global;
 use toml::{Table, Value};
 
-/// The names by which a plan selects the devices to emulate, in its order. `Must` names devices from
-/// which the emulated ones are grown, and `Emulate` the emulated ones themselves.
+/// The names by which a plan selects the devices to emulate, in its order. `Must` names devices
+/// from which the emulated ones are grown, and `Emulate` the emulated ones themselves.
 #[derive(Debug, Drop)]
 pub enum NameSelection {
     Must(Items<Name>),
@@ -59,8 +59,8 @@ fn emulate_in(alloc: Global, emulate: &Value) -> Result<NameSelection, TextAnswe
     Ok(NameSelection::Emulate(names))
 }
 
-/// The names in `must` or in `emulate`, of which exactly one is there. Both are `Key` at `emulate`, and
-/// neither is `Key` at `must`.
+/// The names in `must` or in `emulate`, of which exactly one is there. Both are `Key` at `emulate`,
+/// and neither is `Key` at `must`.
 #[tactic(auto, unfolding(crate::specs::Plan::selection_at))]
 pub fn selection_at(alloc: Global, table: &Table) -> Result<NameSelection, TextAnswer>
     ensures { Reads result (selection_at (table_view table.now)) }

@@ -1,28 +1,19 @@
--- The scripts, and the script that a text stands for, or its first fault.
--- Of a table its keys are read in the order that stands here, and after them a key that isn't listed is a fault.
-use Rattle.std.specs.Prelude.{ℕ, suc, ◌≤◌, nat_le, ℤ, pos, if◌then◌else◌, codes, List, [], ◌∷◌, ◌++◌, length, All, Option, Some, None, ok_or, Result, Ok, Err}
+-- The script that a text stands for, or its first fault.
+-- Of a table its keys are read in the order that stands here, and after them a key that isn't
+-- listed is a fault.
+use Rattle.std.specs.Prelude.{ℕ, suc, nat_le, ℤ, pos, if◌then◌else◌, codes, List, [], ◌∷◌, ◌++◌, Option, Some, None, ok_or, Result, Ok, Err}
 use Rattle.std.specs.Ordering.{int_eq}
 use Rattle.std.specs.Str.{bytes_eq}
 use Rattle.toml.specs.Data.{Data, Items, no_items, item, Members}
 use Rattle.cn_text.specs.declared.answer.TextAnswer.{TextAnswer}
 use Rattle.cn_text.specs.declared.answer.TextAnswer.TheVariants.{Value, Version, TooLong}
-use Rattle.cn_table.specs.Reading.{◌>>=◌}
+use Rattle.cn_lists.specs.Steps.{◌>>=◌}
 use Rattle.cn_table.specs.Document.{document_of}
 use Rattle.cn_table.specs.Tables.{front_of, needed, text_of, integer_of, table_of, number_at, array_at, each, only}
-use Rattle.cn_readscript.specs.declared.command.Command.{Command}
-use Rattle.cn_readscript.specs.declared.command.Command.TheVariants.{Pull, Work}
+use Rattle.cn_change.specs.declared.command.Command.{Command}
+use Rattle.cn_change.specs.declared.command.Command.TheVariants.{Pull, Work}
 use Rattle.cn_readscript.specs.declared.kind.Kind.{Kind}
 use Rattle.cn_readscript.specs.declared.kind.Kind.TheVariants as kinds
-
--- a count of work is from 1 to 1000000
-abbrev pub CountFits : Command → Type 0
-CountFits Pull = Unit {0}
-CountFits (Work count) = (1 ≤ count) × (count ≤ 1000000)
-
--- at most 10000 commands, whose counts fit
-pub record IsScript (commands : List Command) : Type 0 where
-  pub few : length commands ≤ 10000
-  pub counts : All CountFits commands
 
 -- the version is 1
 abbrev pub is_version : ℤ → Result (Unit {0}) TextAnswer
@@ -80,7 +71,8 @@ item_count (item d ds) = suc (item_count ds)
 
 -- an array has at most this many items
 abbrev pub at_most : ℕ → Items → Result (Unit {0}) TextAnswer
-at_most most items = if nat_le (item_count items) most then Ok tt else Err (TooLong (item_count items))
+at_most most items =
+    if nat_le (item_count items) most then Ok tt else Err (TooLong (item_count items))
 
 -- the commands, none where the key is absent: they are counted before the first is read
 unfoldable pub commands_at : Members → Result (List Command) TextAnswer

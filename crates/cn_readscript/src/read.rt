@@ -5,10 +5,9 @@ ghost use Rattle.toml.specs.View.{table_view, items_view};
 ghost use Rattle.cn_table.specs.Reading.{Reads};
 ghost use Rattle.cn_readscript.specs.Script.{version_at, command_in, command_of, at_most, commands_at, script_in, script_of};
 
-use crate::command::Command;
 use crate::kind::{Kind, kind_at};
-use crate::script::Script;
 use cn_base::Items;
+use cn_change::{Command, Script};
 use cn_table::{
     Reader, array_at, bad_shape, document_of, each, front_of, needed, number_at, only, table_of,
 };
@@ -97,9 +96,9 @@ fn script_in(alloc: Global, table: &Table) -> Result<Script, TextAnswer>
     Ok(Script::make(commands.into_vec()))
 }
 
-/// The script that the bytes stand for, or their first fault: bytes that aren't UTF-8, a text that isn't
-/// TOML, and then, depth first, the keys in the order of the format. More than 10,000 commands are told
-/// before any of them is read. Memory may run out instead.
+/// The script that the bytes stand for, or their first fault: bytes that aren't UTF-8, a text that
+/// isn't TOML, and then, depth first, the keys in the order of the format. More than 10,000
+/// commands are told before any of them is read. Memory may run out instead.
 #[tactic(auto, unfolding(crate::specs::Script::script_of))]
 pub fn read_script(alloc: Global, bytes: &[u8]) -> Result<Script, TextAnswer>
     ensures { Reads result (script_of bytes.now) }

@@ -6,7 +6,7 @@ use Rattle.cn_base.specs.Cidr.{Cidr}
 use Rattle.cn_base.specs.declared.ids.DeviceId.{DeviceId}
 use Rattle.cn_base.specs.declared.route.Choice.{Choice}
 use Rattle.cn_net.specs.Candidates.{IsBest, IsCandidate}
-use Rattle.cn_net.specs.Islands.{IsFitting}
+use Rattle.cn_net.specs.Islands.{IsIslandLabelling}
 use Rattle.cn_net.specs.Network.{Network, HasDistinctIds, IsDevice, IsLinked}
 use Rattle.cn_net.specs.OneState.{IsStableFor}
 use Rattle.cn_net.specs.Restriction.{restricted}
@@ -16,7 +16,7 @@ use Rattle.cn_net.proofs.OneState.{one_state_for, source_of}
 use Rattle.cn_net.proofs.Restricted.{accept_restricted, distinct_restricted, length_restricted, link_between_kept, link_between_restricted, offer_kept, outranks_restricted, own_origin_restricted, up_linked}
 
 -- below, s tells the devices of the island i, and nobody else holds anything
-module _ (net : Network) (outside : DeviceId → Bool) (label : DeviceId → Option DeviceId) (fits : IsFitting net outside label) (i : DeviceId) (s : DeviceId → Bool) (inside : (d : DeviceId) → IsDevice net d → s d ≡ true → label d ≡ Some i) (each : (d : DeviceId) → IsDevice net d → label d ≡ Some i → s d ≡ true)
+module _ (net : Network) (outside : DeviceId → Bool) (label : DeviceId → Option DeviceId) (fits : IsIslandLabelling net outside label) (i : DeviceId) (s : DeviceId → Bool) (inside : (d : DeviceId) → IsDevice net d → s d ≡ true → label d ≡ Some i) (each : (d : DeviceId) → IsDevice net d → label d ≡ Some i → s d ≡ true)
     (p : Cidr) (held : Assignment) (nothing : (d : DeviceId) → IsDevice net d → s d ≡ false → held d p ≡ None) (alone : Assignment) where
   -- held in the island, alone elsewhere
   mixed : Assignment

@@ -45,7 +45,7 @@ module _ (o : Opening) (opening : IsOpening o) (rows : List Row) where
   alone = has_one_state (restricted o.net (outside_of o.emulated)) (distinct_restricted o.net (outside_of o.emulated) (distinct_ids o.net opening.valid))
 
   one_island : (i j : DeviceId) (p : Cidr) → IsOfIsland o.net (label_of o.labels) i p → IsOfIsland o.net (label_of o.labels) j p → j ≡ i
-  one_island i j p x y = same_Some j i (sym y.in_island ∙ opening.certified.origins i x.device y.device p x.in_island x.originates y.originates)
+  one_island i j p x y = same_Some j i (sym y.in_island ∙ (opening.certified.island i).origins x.device y.device p x.in_island x.originates y.originates)
 
   -- where the devices of an island say of a prefix what they hold, none of it is unsound
   agreed : (x : IslandPrefix) → IsOfIsland o.net (label_of o.labels) x.island x.prefix → AgreesFor o rows x → (d : DeviceId) → IsUnsound o rows d x.prefix → ⊥
@@ -58,7 +58,7 @@ module _ (o : Opening) (opening : IsOpening o) (rows : List Row) where
     -- a device of the island holds in the table what it holds in the state of the outside devices
     held_alone : (state : Assignment) → IsOutsideState o state → (d : DeviceId) → IsDevice o.net d → label_of o.labels d ≡ Some x.island → held_of table d x.prefix ≡ state d x.prefix
     held_alone state stable d is l =
-        settled_alone o.net (outside_of o.emulated) (label_of o.labels) opening.fitting x.island (holds_device (map (λ m. m.device) part)) (island_inside o.net (label_of o.labels) x.island part are) (island_holds o.net (label_of o.labels) x.island part are) x.prefix (held_of table) settled.others state
+        settled_alone o.net (outside_of o.emulated) (label_of o.labels) opening.labelling x.island (holds_device (map (λ m. m.device) part)) (island_inside o.net (label_of o.labels) x.island part are) (island_holds o.net (label_of o.labels) x.island part are) x.prefix (held_of table) settled.others state
         (distinct_ids o.net opening.valid) settled.stable stable d is (island_holds o.net (label_of o.labels) x.island part are d is l)
 
     says : (d : DeviceId) → IsDevice o.net d → label_of o.labels d ≡ Some x.island → said_by o rows d x.prefix ≡ row_for rows d x.prefix

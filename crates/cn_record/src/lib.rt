@@ -24,6 +24,3 @@ mod soundness;
 pub use recorded::Recorded;
 pub use saved::{Row, Saved, SavedFault};
 pub use soundness::{RecordWhy, Unrecorded, check};
-
-#[cfg(test)]
-mod tests;

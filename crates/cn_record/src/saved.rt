@@ -9,6 +9,7 @@ ghost use Rattle.cn_record.specs.Repeats.{HasNoTie, IsFirstTie};
 ghost use Rattle.cn_record.specs.Rows.{AscendsByPair, IsFirstRepeat, IsRepeated, is_row, row_for};
 
 use cn_base::{Choice, DeviceId, Prefix};
+use std::alloc::{AllocError, Global};
 use std::marker::Model;
 
 /// What a device held for a prefix when the network was recorded.
@@ -17,6 +18,19 @@ pub struct Row {
     pub device: DeviceId,
     pub prefix: Prefix,
     pub choice: Choice,
+}
+
+impl Row {
+    /// An equal row.
+    pub fn copy(&self, alloc: Global) -> Result<Row, AllocError>
+        ensures { IfOk result (λ row. row ≡ self.now) }
+    {
+        Ok(Row {
+            device: self.device,
+            prefix: self.prefix,
+            choice: self.choice.copy(alloc)?,
+        })
+    }
 }
 
 /// Rows by device, then by prefix, at most one for each pair. Contracts see the list of the rows.
@@ -102,5 +116,16 @@ impl Saved {
             Ok(place) => Some(&self.rows[place].choice),
             Err(_) => None,
         }
+    }
+
+    /// Equal rows.
+    pub fn copy(&self, alloc: Global) -> Result<Saved, AllocError>
+        ensures { IfOk result (λ saved. saved ≡ self.now) }
+    {
+        let mut rows = Vec::with_capacity(alloc, self.rows.len())?;
+        for row in &self.rows {
+            rows.push(row.copy(alloc)?)?;
+        }
+        Ok(Saved { rows })
     }
 }

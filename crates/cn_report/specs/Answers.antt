@@ -1,5 +1,5 @@
 -- What commands are answered with. Every line ends with one line feed.
-use Rattle.std.specs.Prelude.{ℕ, codes, List, [], ◌∷◌, ◌++◌, flat_map}
+use Rattle.std.specs.Prelude.{ℕ, codes, List, ◌++◌, flat_map}
 use Rattle.std.specs.Fmt.{decimal}
 use Rattle.cn_base.specs.declared.table.TableRow.{TableRow}
 use Rattle.cn_core.specs.declared.answer.Answer.{Answer}
@@ -8,14 +8,11 @@ use Rattle.cn_core.specs.declared.pull.DeviceTable.{DeviceTable}
 use Rattle.cn_core.specs.declared.pull.Pull.{Pull}
 use Rattle.cn_core.specs.declared.pull.Pull.TheVariants.{Quiet, Again}
 use Rattle.cn_net.specs.Network.{Network, name_of}
-use Rattle.cn_readscript.specs.declared.command.Command.{Command}
-use Rattle.cn_readscript.specs.declared.command.Command.TheVariants as command
+use Rattle.cn_change.specs.declared.command.Command.{Command}
+use Rattle.cn_change.specs.declared.command.Command.TheVariants as command
 use Rattle.cn_report.specs.Choice.{choice_text}
 use Rattle.cn_report.specs.Standing.{pending_text}
-use Rattle.cn_text.specs.Printed.{prefix_text}
-
-abbrev pub newline : List ℕ
-newline = 10 ∷ []
+use Rattle.cn_text.specs.Printed.{newline, prefix_text}
 
 -- command k, whose kind is this word, is done
 abbrev pub done_text : ℕ → List ℕ → List ℕ
@@ -29,7 +26,8 @@ row_line net row = prefix_text row.prefix ++ codes " " ++ choice_text net row.ch
 
 -- the line of a device, and the lines of its rows
 abbrev pub table_text : Network → DeviceTable → List ℕ
-table_text net held = codes "table " ++ name_of net held.device ++ newline ++ flat_map (row_line net) held.table
+table_text net held =
+    codes "table " ++ name_of net held.device ++ newline ++ flat_map (row_line net) held.table
 
 -- what a pull shows: every table, or what is pending first
 abbrev pub shown_text : Network → Pull → List ℕ

@@ -12,4 +12,6 @@ source_text net (Some sender) = codes "from " ++ name_of net sender
 
 -- a choice: where it came from, its path and its ORIGIN
 abbrev pub choice_text : Network → Choice → List ℕ
-choice_text net c = source_text net c.from ++ codes " path " ++ path_text c.path ++ codes " origin " ++ origin_text c.origin
+choice_text net c =
+    source_text net c.from ++ codes " path " ++ path_text c.path ++ codes " origin "
+    ++ origin_text c.origin

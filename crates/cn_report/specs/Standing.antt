@@ -4,10 +4,11 @@ use Rattle.cn_base.specs.declared.ids.DeviceId.{DeviceId}
 use Rattle.cn_base.specs.declared.standing.Standing.{Standing}
 use Rattle.cn_base.specs.declared.standing.Standing.TheVariants.{Quiet, Mailbox, Device}
 use Rattle.cn_net.specs.Network.{Network, name_of}
+use Rattle.cn_text.specs.Printed.{pair_text}
 
 -- the two devices of a session, the sender first
 abbrev pub paired : Network → DeviceId → DeviceId → List ℕ
-paired net from to = name_of net from ++ codes " " ++ name_of net to
+paired net from to = pair_text (name_of net from) (name_of net to)
 
 -- what is pending first, behind a space, and nothing where nothing is
 abbrev pub pending_text : Network → Standing → List ℕ

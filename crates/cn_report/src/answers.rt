@@ -7,9 +7,9 @@ ghost use Rattle.cn_report.specs.Standing.{pending_text};
 use crate::names::{put_name, put_pair};
 use crate::tables::put_tables;
 use cn_base::Standing;
+use cn_change::Command;
 use cn_core::{Answer, Pull};
 use cn_net::Net;
-use cn_readscript::Command;
 use cn_text::put_number;
 use std::alloc::{AllocError, Global};
 

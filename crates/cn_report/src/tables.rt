@@ -26,7 +26,8 @@ fn put_rows(
     net: &Net,
     rows: &[TableRow],
 ) -> Result<(), AllocError>
-    ensures { OnOk result (text.new.items ≡ text.old.items ++ flat_map (row_line net.now) rows.now) }
+    ensures { OnOk result
+        (text.new.items ≡ text.old.items ++ flat_map (row_line net.now) rows.now) }
 {
     for row in rows {
         put_row(alloc, text, net, row)?;
@@ -56,7 +57,8 @@ pub fn put_tables(
     net: &Net,
     tables: &[DeviceTable],
 ) -> Result<(), AllocError>
-    ensures { OnOk result (text.new.items ≡ text.old.items ++ flat_map (table_text net.now) tables.now) }
+    ensures { OnOk result
+        (text.new.items ≡ text.old.items ++ flat_map (table_text net.now) tables.now) }
 {
     for held in tables {
         put_table(alloc, text, net, held)?;

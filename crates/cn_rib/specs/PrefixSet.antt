@@ -37,4 +37,7 @@ least s = slice_get (fin.keys s) 0
 
 -- the least prefix of a set is in it, and stands before each other prefix of it
 abbrev pub LeastLaw : Type 0
-LeastLaw = (s : PrefixSet) (p : Cidr) → least s ≡ Some p → (contains s p ≡ true) × ((q : Cidr) → contains s q ≡ true → same_prefix q p ≡ false → prefix_cmp p q ≡ Less)
+LeastLaw =
+    (s : PrefixSet) (p : Cidr) → least s ≡ Some p
+    → (contains s p ≡ true)
+    × ((q : Cidr) → contains s q ≡ true → same_prefix q p ≡ false → prefix_cmp p q ≡ Less)

@@ -20,8 +20,8 @@ pub struct Row<V> {
     pub value: V,
 }
 
-/// A finite map from prefixes to values, as rows whose prefixes ascend by the bits and then by the length.
-/// Contracts see the map.
+/// A finite map from prefixes to values, as rows whose prefixes ascend by the bits and then by the
+/// length. Contracts see the map.
 #[derive(Debug, Drop)]
 pub struct PrefixMap<V> {
     rows: Vec<Row<V>>,
@@ -40,7 +40,8 @@ impl<V> Model for PrefixMap<V> {
 
     ghost view = { λ m. from_sorted (map (λ r. (r.prefix, r.value)) m.rows.items) };
 
-    ghost invariant = { λ m. T (is_sorted prefix_cmp (map (λ r. (r.prefix, r.value)) m.rows.items)) };
+    ghost invariant = { λ m.
+        T (is_sorted prefix_cmp (map (λ r. (r.prefix, r.value)) m.rows.items)) };
 }
 
 impl<V> PrefixMap<V> {
@@ -143,7 +144,9 @@ fn put<V>(rows: &mut Vec<Row<V>>, prefix: Prefix, value: V) -> Result<(), AllocE
 where
     V: Drop,
     requires { T (is_sorted prefix_cmp (map (λ r. (r.prefix, r.value)) rows.old.items)) }
-    ensures ok { OnOk result (map (λ r. (r.prefix, r.value)) rows.new.items ≡ put prefix_cmp prefix value (map (λ r. (r.prefix, r.value)) rows.old.items)) }
+    ensures ok { OnOk result
+        (map (λ r. (r.prefix, r.value)) rows.new.items
+        ≡ put prefix_cmp prefix value (map (λ r. (r.prefix, r.value)) rows.old.items)) }
     ensures err { OnErr result (rows.new.items ≡ rows.old.items) }
     ensures room { vec_len rows.old < vec_capacity rows.old → IsOk result }
     ensures length { vec_len rows.new ≤ vec_len rows.old + 1 }

@@ -59,7 +59,8 @@ impl PrefixSet {
         self.map.get(prefix).is_some()
     }
 
-    /// The least prefix, by the bits and then by the length. None comes exactly where the set is empty.
+    /// The least prefix, by the bits and then by the length. None comes exactly where the set is
+    /// empty.
     pub fn first(&self) -> Option<Prefix>
         ensures { result ≡ set.least self.now }
     {

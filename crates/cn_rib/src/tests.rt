@@ -1,5 +1,5 @@
 use super::*;
-use cn_base::{AsPath, Asn, Origin, Prefix};
+use cn_base::{AsPath, Asn, Attributes, Origin, Prefix};
 use std::alloc::{AllocError, Global};
 use std::process::Abort;
 use std::test::Fail;

@@ -1,7 +1,7 @@
 -- What a run of a script leaves.
 use Rattle.std.specs.Prelude.{◌≡◌, List}
 use Rattle.cn_record.specs.Recorded.{RecordedOpening}
-use Rattle.cn_readscript.specs.declared.command.Command.{Command}
+use Rattle.cn_change.specs.declared.command.Command.{Command}
 use Rattle.cn_serial.specs.declared.serial.Ran.{Ran}
 use Rattle.cn_serial.specs.Serial.{AreAnswers, play_of}
 

@@ -13,15 +13,16 @@ use Rattle.cn_core.specs.Start.{start}
 use Rattle.cn_core.specs.Order.{first_event}
 use Rattle.cn_core.specs.Pulled.{IsPulled}
 use Rattle.cn_core.specs.State.{CoreState}
-use Rattle.cn_readscript.specs.declared.command.Command.{Command}
-use Rattle.cn_readscript.specs.declared.command.Command.TheVariants as command
+use Rattle.cn_change.specs.declared.command.Command.{Command}
+use Rattle.cn_change.specs.declared.command.Command.TheVariants as command
 
 -- ---- the play
 
 -- the first event again and again, until n have happened or the state is quiet
 unfoldable pub first_events : CoreState → ℕ → List Event
 first_events s zero = []
-first_events s (suc n) = elim (first_event s) [ None ↦ [] | Some e ↦ e ∷ first_events (after_event s e) n ]
+first_events s (suc n) =
+    elim (first_event s) [ None ↦ [] | Some e ↦ e ∷ first_events (after_event s e) n ]
 
 -- the steps of a command, before its mark
 abbrev pub part_of : CoreState → Command → List Step
@@ -31,7 +32,8 @@ part_of s (command.Work n) = map Work (first_events s n)
 -- the steps of these commands, of which the first has number k: each part, and behind it the mark
 abbrev pub serial_play : CoreState → ℕ → List Command → List Step
 serial_play s k [] = []
-serial_play s k (c ∷ cs) = part_of s c ++ Mark k ∷ serial_play (fold step s (part_of s c)) (k + 1) cs
+serial_play s k (c ∷ cs) =
+    part_of s c ++ Mark k ∷ serial_play (fold step s (part_of s c)) (k + 1) cs
 
 -- the serial play of a script from an opening
 abbrev pub play_of : RecordedOpening → List Command → List Step
@@ -41,7 +43,8 @@ play_of r script = serial_play (start r) 1 script
 
 -- the log at the mark behind command number k
 abbrev pub at_mark : Log → ℕ → Command → Log
-at_mark l k c = record { recorded = l.recorded; history = l.history ++ part_of (now l) c ++ Mark k ∷ [] }
+at_mark l k c =
+    record { recorded = l.recorded; history = l.history ++ part_of (now l) c ++ Mark k ∷ [] }
 
 -- the answer to a command, by the log at its mark
 abbrev pub IsAnswer : Log → Command → Answer → Type 0
@@ -55,8 +58,10 @@ abbrev pub AreAnswersFrom : Log → ℕ → List Command → List Answer → Typ
 AreAnswersFrom l k [] [] = Unit {0}
 AreAnswersFrom l k [] (a ∷ more) = ⊥
 AreAnswersFrom l k (c ∷ cs) [] = ⊥
-AreAnswersFrom l k (c ∷ cs) (a ∷ more) = IsAnswer (at_mark l k c) c a × AreAnswersFrom (at_mark l k c) (k + 1) cs more
+AreAnswersFrom l k (c ∷ cs) (a ∷ more) =
+    IsAnswer (at_mark l k c) c a × AreAnswersFrom (at_mark l k c) (k + 1) cs more
 
 -- the answers to a script that is run from an opening
 abbrev pub AreAnswers : RecordedOpening → List Command → List Answer → Type 0
-AreAnswers r script answers = AreAnswersFrom (record { recorded = r; history = [] }) 1 script answers
+AreAnswers r script answers =
+    AreAnswersFrom (record { recorded = r; history = [] }) 1 script answers

@@ -7,8 +7,8 @@ ghost use Rattle.cn_serial.specs.Ran.{IsRan};
 ghost use Rattle.cn_serial.specs.Serial.{IsAnswer, at_mark, first_events};
 
 use cn_base::Items;
+use cn_change::{Command, Script};
 use cn_core::{Answer, Core, StepAnswer};
-use cn_readscript::{Command, Script};
 use cn_record::Recorded;
 use std::alloc::{AllocError, Global};
 
@@ -22,7 +22,8 @@ pub struct Ran {
 // The first event happens, again and again, until so many have happened or the state is quiet.
 fn work(alloc: Global, core: &mut Core, count: u32) -> Result<(), AllocError>
     ensures recorded { core.new.recorded ≡ core.old.recorded }
-    ensures history { OnOk result (core.new.history ≡ core.old.history ++ map Work (first_events (now core.old) count)) }
+    ensures history { OnOk result
+        (core.new.history ≡ core.old.history ++ map Work (first_events (now core.old) count)) }
 {
     for done in 0..count {
         let _ = done;
@@ -61,8 +62,8 @@ fn run_command(
     }
 }
 
-/// Runs a script in the serial order on the emulated devices of an opening, with speakers in place of the
-/// others. The error is want of memory.
+/// Runs a script in the serial order on the emulated devices of an opening, with speakers in place
+/// of the others. The error is want of memory.
 pub fn run_serial(alloc: Global, recorded: Recorded, script: &Script) -> Result<Ran, AllocError>
     ensures { IfOk result (λ ran. IsRan recorded script.now ran) }
 {

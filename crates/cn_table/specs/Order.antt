@@ -20,4 +20,6 @@ KeysAscend ms = IsStrictlySortedBy (slice_cmp nat_cmp) (member_keys ms)
 pub record IsLeastUnlisted (listed : List (List ℕ)) (ms : Members) (k : List ℕ) : Type 0 where
   pub key : Contains (member_keys ms) k
   pub unlisted : list_any (bytes_eq k) listed ≡ false
-  pub least : All (λ q. list_any (bytes_eq q) listed ≡ false → (q ≡ k) ⊎ (is_lt (slice_cmp nat_cmp k q) ≡ true)) (member_keys ms)
+  pub least : All
+      (λ q. list_any (bytes_eq q) listed ≡ false → (q ≡ k) ⊎ (is_lt (slice_cmp nat_cmp k q) ≡ true))
+      (member_keys ms)

@@ -1,5 +1,6 @@
 -- What is read from a table of a text, and where its faults stand.
--- `front` is what stands before a key in its path: nothing at the top, and else the table's path and a dot.
+-- `front` is what stands before a key in its path: nothing at the top, and else the table's path
+-- and a dot.
 use Rattle.std.specs.Prelude.{ℕ, suc, ℤ, pos, negsuc, ◌&&◌, nat_le, if◌then◌else◌, codes, List, [], ◌∷◌, ◌++◌, map, Option, Some, None, ok_or, Result, Ok, Err}
 use Rattle.std.specs.Fmt.{decimal}
 use Rattle.std.specs.List.{list_any}
@@ -11,7 +12,7 @@ use Rattle.cn_base.specs.declared.ids.Origin.{Origin}
 use Rattle.cn_text.specs.Atoms.{address_of, prefix_of, path_of, origin_of}
 use Rattle.cn_text.specs.declared.answer.TextAnswer.{TextAnswer}
 use Rattle.cn_text.specs.declared.answer.TextAnswer.TheVariants.{Key, Shape, Value}
-use Rattle.cn_table.specs.Reading.{◌>>=◌}
+use Rattle.cn_lists.specs.Steps.{◌>>=◌}
 use Rattle.toml.specs.Data.{Data, Items, no_items, item, Members, no_members, member, get_member, as_str, as_integer, as_array, as_table}
 
 -- the path of an item of an array, and the front of the keys of a table
@@ -111,7 +112,8 @@ unfoldable pub array_at : List ℕ → List ℕ → Members → Result Items Tex
 array_at front key ms = items_in (front ++ key) (get_member key ms)
 
 -- each item of an array, from that place on
-unfoldable pub each : {A : Type 0} → (List ℕ → Data → Result A TextAnswer) → List ℕ → ℕ → Items → Result (List A) TextAnswer
+unfoldable pub each : {A : Type 0} → (List ℕ → Data → Result A TextAnswer) → List ℕ → ℕ → Items
+    → Result (List A) TextAnswer
 each read path i no_items = Ok []
 each read path i (item d ds) = do
   first ← read (item_path path i) d
@@ -122,11 +124,13 @@ each read path i (item d ds) = do
 abbrev pub shown : ℕ → ℕ
 shown b = if nat_le 0x21 b && nat_le b 0x7E then b else 63
 
--- The first key that isn't listed. It is the least in the order of the keys' bytes (Order.antt), since the members of a
--- table stand in that order: they are the entries of an ordered map. The laws `keys_ascend` and `unlisted_is_least` say so.
+-- The first key that isn't listed. It is the least in the order of the keys' bytes (Order.antt),
+-- since the members of a table stand in that order: they are the entries of an ordered map. The
+-- laws `keys_ascend` and `unlisted_is_least` say so.
 unfoldable pub unlisted : List (List ℕ) → Members → Option (List ℕ)
 unlisted listed no_members = None
-unlisted listed (member k d ms) = if list_any (bytes_eq k) listed then unlisted listed ms else Some k
+unlisted listed (member k d ms) =
+    if list_any (bytes_eq k) listed then unlisted listed ms else Some k
 
 abbrev pub no_key : List ℕ → Option (List ℕ) → Result (Unit {0}) TextAnswer
 no_key front None = Ok tt

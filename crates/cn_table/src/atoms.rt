@@ -1,5 +1,6 @@
-//! Values that are one thing: names, addresses, prefixes, paths, the words for an ORIGIN, and integers. Another kind of value is `Shape`
-//! at its path, a value outside its rule is `Value`, and a key that isn't there is `Key`.
+//! Values that are one thing: names, addresses, prefixes, paths, the words for an ORIGIN, and
+//! integers. Another kind of value is `Shape` at its path, a value outside its rule is `Value`, and
+//! a key that isn't there is `Key`.
 
 ghost use Rattle.std.specs.Prelude.{◌≡◌, ◌≤◌, IfOk, IfSome};
 ghost use Rattle.toml.specs.View.{view, table_view};

@@ -9,8 +9,8 @@ use cn_text::TextAnswer;
 use std::alloc::Global;
 use toml::{Table, table_from_str};
 
-/// The top table of the text that the bytes are. Bytes that aren't UTF-8 are `NotUtf8`, and a text that
-/// isn't TOML is `NotToml`.
+/// The top table of the text that the bytes are. Bytes that aren't UTF-8 are `NotUtf8`, and a text
+/// that isn't TOML is `NotToml`.
 #[tactic(auto, unfolding(crate::specs::Document::document_of))]
 pub fn document_of(alloc: Global, bytes: &[u8]) -> Result<Table, TextAnswer>
     ensures { Gives (λ t. table_view t) result (document_of bytes.now) }

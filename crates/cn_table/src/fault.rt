@@ -1,5 +1,5 @@
-//! Paths, and the faults that name them. A fault is made where it is answered: no path is made for a
-//! value without fault, but for the items of arrays.
+//! Paths, and the faults that name them. A fault is made where it is answered: no path is made for
+//! a value without fault, but for the items of arrays.
 
 ghost use Rattle.std.specs.Prelude.{◌≡◌, ◌++◌, IfOk};
 ghost use Rattle.cn_table.specs.Reading.{IsFault};

@@ -39,8 +39,8 @@ impl Reader for NameReader {
     }
 }
 
-/// All items of the array at this path, each read whole before the next. The fault is that of the first
-/// item that has one.
+/// All items of the array at this path, each read whole before the next. The fault is that of the
+/// first item that has one.
 pub fn each<R: Reader>(
     alloc: Global,
     reader: &R,

@@ -47,8 +47,9 @@ fn unlisted_key(alloc: Global, front: &[u8], key: &String) -> TextAnswer
     }
 }
 
-/// The table has no keys but the listed ones, any of which may be absent. Another is `Key` at its path,
-/// with `?` for each byte that isn't a visible character of ASCII; of several it is the least.
+/// The table has no keys but the listed ones, any of which may be absent. Another is `Key` at its
+/// path, with `?` for each byte that isn't a visible character of ASCII; of several it is the
+/// least.
 pub fn only(alloc: Global, front: &[u8], listed: &[&str], table: &Table) -> Result<(), TextAnswer>
     ensures { Reads result (only front.now (map (λ k. k.now) listed.now) (table_view table.now)) }
 {
@@ -60,8 +61,8 @@ pub fn only(alloc: Global, front: &[u8], listed: &[&str], table: &Table) -> Resu
     Ok(())
 }
 
-/// Does nothing: the keys of a table ascend by its type, and a proof that needs to know so cites this
-/// call.
+/// Does nothing: the keys of a table ascend by its type, and a proof that needs to know so cites
+/// this call.
 pub fn keys_ascend(table: &Table)
     ensures { KeysAscend (table_view table.now) }
 {
@@ -70,5 +71,6 @@ pub fn keys_ascend(table: &Table)
 
 /// Of keys that ascend, the one that is told as unlisted is the least of those that aren't listed.
 pub fn unlisted_is_least()
-    ensures { (listed : List (List ℕ)) (ms : Members) (k : List ℕ) → KeysAscend ms → unlisted listed ms ≡ Some k → IsLeastUnlisted listed ms k }
+    ensures { (listed : List (List ℕ)) (ms : Members) (k : List ℕ) → KeysAscend ms
+        → unlisted listed ms ≡ Some k → IsLeastUnlisted listed ms k }
 {}

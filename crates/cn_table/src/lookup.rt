@@ -51,7 +51,8 @@ pub fn array_at<'a>(
     key: &str,
     table: &'a Table,
 ) -> Result<&'a [Value], TextAnswer>
-    ensures { Gives (λ v. items_view v.now) result (array_at front.now key.now (table_view table.now)) }
+    ensures { Gives (λ v. items_view v.now) result
+        (array_at front.now key.now (table_view table.now)) }
 {
     match member(table, key) {
         None => Ok(&[]),

@@ -12,12 +12,14 @@ use Rattle.std.proofs.lemmas.Str.Parse.{IsNumeralModel, numerals_by_fold, tells_
 use Rattle.cn_text.specs.Number.{is_digit, digit_count, value, value_after, number_at}
 use Rattle.cn_text.specs.declared.number.Bad.{Bad}
 
+-- each octet is a digit
 abbrev pub AreDigits : List ℕ → Type 0
 AreDigits ds = (i : ℕ) → i < length ds → IsInRange 48 57 (get_or ds i 0)
 
 folds : FoldsDigits value_after
 folds = record { empty = λ n. refl; more = λ n c cs r. refl }
 
+-- the values of digits are those of std
 pub own : IsNumeralModel AreDigits value
 own = numerals_by_fold AreDigits tells_by_index value_after folds
 
@@ -33,8 +35,10 @@ run_is_digits (b ∷ bs) =
     let P : ℕ → Type 0 = λ n. AreDigits (take n (b ∷ bs)) in
     elim (cases_Bool (is_digit b)) [
       | inl t ↦
-          let e : prefix_len is_digit (b ∷ bs) ≡ suc (prefix_len is_digit bs) = rw t (omega arith) in
-          subst P (sym e) (front_more b (take (prefix_len is_digit bs) bs) (digit_in_range b t) (run_is_digits bs))
+          let e : prefix_len is_digit (b ∷ bs) ≡ suc (prefix_len is_digit bs) =
+          rw t (omega arith) in
+          subst P (sym e)
+          (front_more b (take (prefix_len is_digit bs) bs) (digit_in_range b t) (run_is_digits bs))
       | inr f ↦
           let e : prefix_len is_digit (b ∷ bs) ≡ 0 = rw f refl in
           subst P (sym e) tells_by_index.empty
@@ -48,33 +52,44 @@ pub record IsNumber (ds : List ℕ) : Type 0 where
 abbrev front : List ℕ → List ℕ
 front rest = take (digit_count rest) rest
 
-run_no_zero : (b : ℕ) (bs : List ℕ) → eqb b 48 ≡ false → get_or (take (prefix_len is_digit (b ∷ bs)) (b ∷ bs)) 0 0 ≡ 48 → length (take (prefix_len is_digit (b ∷ bs)) (b ∷ bs)) ≡ 1
+run_no_zero : (b : ℕ) (bs : List ℕ) → eqb b 48 ≡ false
+    → get_or (take (prefix_len is_digit (b ∷ bs)) (b ∷ bs)) 0 0 ≡ 48
+    → length (take (prefix_len is_digit (b ∷ bs)) (b ∷ bs)) ≡ 1
 run_no_zero b bs differs =
     let P : ℕ → Type 0 = λ n. get_or (take n (b ∷ bs)) 0 0 ≡ 48 → length (take n (b ∷ bs)) ≡ 1 in
     elim (cases_Bool (is_digit b)) [
       | inl t ↦
-          let e : prefix_len is_digit (b ∷ bs) ≡ suc (prefix_len is_digit bs) = rw t (omega arith) in
+          let e : prefix_len is_digit (b ∷ bs) ≡ suc (prefix_len is_digit bs) =
+          rw t (omega arith) in
           subst P (sym e) (λ (h : b ≡ 48). absurd (grind (arith, nat_tests)))
       | inr f ↦
           let e : prefix_len is_digit (b ∷ bs) ≡ 0 = rw f refl in
           subst P (sym e) (λ (h : 0 ≡ 48). absurd (omega arith))
     ]
 
-pub front_is_number : (rest : List ℕ) → IsNumber (front rest)
-front_is_number [] = record { digits = tells_by_index.empty; no_zero = λ (h : 0 ≡ 48). absurd (omega arith) }
+front_is_number : (rest : List ℕ) → IsNumber (front rest)
+front_is_number [] =
+    record { digits = tells_by_index.empty; no_zero = λ (h : 0 ≡ 48). absurd (omega arith) }
 front_is_number (b ∷ bs) =
     let P : ℕ → Type 0 = λ n. IsNumber (take n (b ∷ bs)) in
     elim (cases_Bool (eqb b 48)) [
       | inl t ↦
           let e : digit_count (b ∷ bs) ≡ 1 = rw t refl in
           let is : b ≡ 48 = grind (arith, nat_tests) in
-          subst P (sym e) (record { digits = front_more b [] (omega arith, omega arith) tells_by_index.empty; no_zero = λ _. refl })
+          subst P (sym e) (record {
+            digits = front_more b [] (omega arith, omega arith) tells_by_index.empty;
+            no_zero = λ _. refl;
+          })
       | inr f ↦
           let e : digit_count (b ∷ bs) ≡ prefix_len is_digit (b ∷ bs) = rw f refl in
           subst P (sym e) (record { digits = run_is_digits (b ∷ bs); no_zero = run_no_zero b bs f })
     ]
 
-number_parts : (c v max at : ℕ) (x : ℕ × ℕ) (d : Bad) → let r : Result (ℕ × ℕ) Bad = cond (eqb c 0) (Err d) (cond (leb v max) (Ok (v, at + c)) (Err d)) in r ≡ Ok x → (0 < c) × (v ≤ max) × (x ≡ (v, at + c))
+number_parts : (c v max at : ℕ) (x : ℕ × ℕ) (d : Bad)
+    → let r : Result (ℕ × ℕ) Bad =
+    cond (eqb c 0) (Err d) (cond (leb v max) (Ok (v, at + c)) (Err d)) in
+    r ≡ Ok x
+    → (0 < c) × (v ≤ max) × (x ≡ (v, at + c))
 number_parts c v max at x d =
     elim (cases_Bool (eqb c 0)) [
       | inl t ↦ rw t (λ e. absurd cc)
@@ -97,21 +112,32 @@ not_empty [] h = absurd (omega arith)
 not_empty (b ∷ bs) h = omega (arith, length-take (digit_count (b ∷ bs)) (b ∷ bs))
 
 -- where what was read ends, and what it is
-pub number_shape : (bytes : List ℕ) (at max n after : ℕ) → max < 2 ^ 64 → number_at bytes at max ≡ Ok (n, after)
-    → (after ≡ at + length (decimal n)) × (take (length (decimal n)) (drop at bytes) ≡ decimal n) × (n ≤ max)
+pub number_shape : (bytes : List ℕ) (at max n after : ℕ) → max < 2 ^ 64
+    → number_at bytes at max ≡ Ok (n, after)
+    → (after ≡ at + length (decimal n)) × (take (length (decimal n)) (drop at bytes) ≡ decimal n)
+    × (n ≤ max)
 number_shape bytes at max n after small e =
     let rest = drop at bytes in
-    let p = number_parts (digit_count rest) (value (front rest)) max at (n, after) (record { at = at }) e in
+    let p =
+    number_parts (digit_count rest) (value (front rest)) max at (n, after) (record { at = at }) e in
     let is = front_is_number rest in
     let n_is : n ≡ value (front rest) = ap (λ (x : ℕ × ℕ). x.0) p.2 in
     let after_is : after ≡ at + digit_count rest = ap (λ (x : ℕ × ℕ). x.1) p.2 in
-    let printed : decimal (value (front rest)) ≡ front rest = decimal-digits_value own (front rest) is.digits (not_empty rest p.0) is.no_zero (omega (arith, p.1)) in
+    let printed : decimal (value (front rest)) ≡ front rest =
+    decimal-digits_value own (front rest) is.digits (not_empty rest p.0) is.no_zero
+    (omega (arith, p.1)) in
     let spelled : decimal n ≡ front rest = ap decimal n_is ∙ printed in
-    let long : length (decimal n) ≡ digit_count rest = ap length spelled ∙ length-take-le (digit_count rest) rest (digit_count_within rest) in
-    (omega (arith, after_is, long), ap (λ (k : ℕ). take k rest) long ∙ sym spelled, omega (arith, p.1))
+    let long : length (decimal n) ≡ digit_count rest =
+    ap length spelled ∙ length-take-le (digit_count rest) rest (digit_count_within rest) in (
+      omega (arith, after_is, long),
+      ap (λ (k : ℕ). take k rest) long ∙ sym spelled,
+      omega (arith, p.1),
+    )
 
 -- what was read is what is printed
-pub read_is_printed : (bytes : List ℕ) (at max n after : ℕ) → max < 2 ^ 64 → number_at bytes at max ≡ Ok (n, after) → (n ≤ max) × (take (after - at) (drop at bytes) ≡ decimal n)
+pub read_is_printed : (bytes : List ℕ) (at max n after : ℕ) → max < 2 ^ 64
+    → number_at bytes at max ≡ Ok (n, after)
+    → (n ≤ max) × (take (after - at) (drop at bytes) ≡ decimal n)
 read_is_printed bytes at max n after small e =
     let h = number_shape bytes at max n after small e in
     let length_is : after - at ≡ length (decimal n) = omega (arith, h.0) in

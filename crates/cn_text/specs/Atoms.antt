@@ -1,6 +1,7 @@
 -- Addresses, prefixes and paths, read at a place of a text, and texts that are an atom as a whole.
 use Rattle.std.specs.Prelude.{◌≡◌, ℕ, zero, suc, ◌+◌, ◌*◌, ◌%◌, ◌^◌, ◌-◌, ◌≤◌, ◌<◌, ◌==◌, Bool, false, ◌&&◌, if◌then◌else◌, List, [], ◌∷◌, All, length, drop, slice_index, Option, Some, None, slice_get, Result, Ok, Err}
 use Rattle.std.specs.Str.{bytes_eq}
+use Rattle.cn_lists.specs.Steps.{◌>>=◌}
 use Rattle.cn_base.specs.Cidr.{Cidr}
 use Rattle.cn_base.specs.declared.ids.Asn.{Asn}
 use Rattle.cn_base.specs.declared.ids.Origin.{Origin}
@@ -10,12 +11,6 @@ use Rattle.cn_text.specs.Printed.{origin_text}
 use Rattle.cn_text.specs.declared.number.Bad.{Bad}
 use Rattle.cn_text.specs.declared.path.PathAnswer.{PathAnswer}
 use Rattle.cn_text.specs.declared.path.PathAnswer.TheVariants.{Bad as BadPath, Memory}
-
--- steps, of which the first that is refused is the answer
-infixl 10 ◌>>=◌
-abbrev pub ◌>>=◌ : {A B : Type 0} → Result A Bad → (A → Result B Bad) → Result B Bad
-(Ok x) >>= f = f x
-(Err e) >>= f = Err e
 
 abbrev pub is_mark : ℕ → ℕ → Option ℕ → Result ℕ Bad
 is_mark at mark None = Err (record { at = at })
@@ -37,14 +32,15 @@ address_at bytes at = do
   d ← number_at bytes r 255
   Ok (a.0 * 16777216 + b.0 * 65536 + c.0 * 256 + d.0, d.1)
 
--- The prefix at a place, an address, a slash and a length, and the place after it. The bits after its length are
--- zero; a length that leaves others is refused at its first octet.
+-- The prefix at a place, an address, a slash and a length, and the place after it. The bits after
+-- its length are zero; a length that leaves others is refused at its first octet.
 unfoldable pub prefix_at : List ℕ → ℕ → Result (Cidr × ℕ) Bad
 prefix_at bytes at = do
   a ← address_at bytes at
   p ← mark_at bytes a.1 47
   n ← number_at bytes p 32
-  if a.0 % 2 ^ (32 - n.0) == 0 then Ok (record { bits = a.0; len = n.0 }, n.1) else Err (record { at = p })
+  if a.0 % 2 ^ (32 - n.0) == 0 then Ok (record { bits = a.0; len = n.0 }, n.1)
+      else Err (record { at = p })
 
 -- a path that can be printed: at most 255 numbers of four octets each (RFC 4271, 4.3; RFC 6793)
 pub record IsPath (path : List Asn) : Type 0 where
@@ -56,10 +52,11 @@ abbrev pub is_further : List ℕ → Bool
 is_further [] = false
 is_further (b ∷ bs) = b == 32 && is_digit (slice_index bs 0)
 
--- The further numbers of a path, at most so many, each after a space, and the place after them. One too many is refused at
--- its first octet.
+-- The further numbers of a path, at most so many, each after a space, and the place after them. One
+-- too many is refused at its first octet.
 unfoldable pub further_at : List ℕ → ℕ → ℕ → Result (List Asn × ℕ) Bad
-further_at bytes zero at = if is_further (drop at bytes) then Err (record { at = at + 1 }) else Ok ([], at)
+further_at bytes zero at =
+    if is_further (drop at bytes) then Err (record { at = at + 1 }) else Ok ([], at)
 further_at bytes (suc room) at = if is_further (drop at bytes) then (do
   n ← number_at bytes (at + 1) 4294967295
   ns ← further_at bytes room n.1

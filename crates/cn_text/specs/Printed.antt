@@ -1,4 +1,4 @@
--- The one spelling of an address, of a prefix, of a path and of an ORIGIN.
+-- The one spelling of an address, of a prefix, of a path and of an ORIGIN, and what lines share.
 use Rattle.std.specs.Prelude.{ℕ, ◌/◌, ◌%◌, codes, List, [], ◌∷◌, ◌++◌, flat_map}
 use Rattle.std.specs.Fmt.{decimal}
 use Rattle.cn_base.specs.Cidr.{Cidr}
@@ -6,9 +6,19 @@ use Rattle.cn_base.specs.declared.ids.Asn.{Asn}
 use Rattle.cn_base.specs.declared.ids.Origin.{Origin}
 use Rattle.cn_base.specs.declared.ids.Origin.TheVariants.{Igp, Egp, Incomplete}
 
+-- the end of a line
+abbrev pub newline : List ℕ
+newline = 10 ∷ []
+
+-- two names, joined by a space
+abbrev pub pair_text : List ℕ → List ℕ → List ℕ
+pair_text first second = first ++ codes " " ++ second
+
 -- the four octets, joined by dots
 abbrev pub address : ℕ → List ℕ
-address n = decimal (n / 16777216) ++ codes "." ++ decimal (n / 65536 % 256) ++ codes "." ++ decimal (n / 256 % 256) ++ codes "." ++ decimal (n % 256)
+address n =
+    decimal (n / 16777216) ++ codes "." ++ decimal (n / 65536 % 256) ++ codes "."
+    ++ decimal (n / 256 % 256) ++ codes "." ++ decimal (n % 256)
 
 -- an address, a slash and the length
 abbrev pub prefix_text : Cidr → List ℕ

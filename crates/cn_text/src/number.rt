@@ -44,7 +44,8 @@ fn digit_count(bytes: &[u8]) -> usize
 }
 
 fn value_within(digits: &[u8], max: u64) -> Option<u64>
-    ensures value { result ≡ (if nat_le (value digits.now) max then Some (value digits.now) else None) }
+    ensures value { result
+        ≡ (if nat_le (value digits.now) max then Some (value digits.now) else None) }
     ensures within { IfSome result (λ n. n ≤ max) }
 {
     let mut value: u64 = 0;
@@ -58,8 +59,9 @@ fn value_within(digits: &[u8], max: u64) -> Option<u64>
     Some(value)
 }
 
-/// The number at a place, at most `max`, and the place after it: a 0 alone, or a digit from 1 to 9 and
-/// all the digits that follow. What isn't one, or spells more than `max`, is refused at its first octet.
+/// The number at a place, at most `max`, and the place after it: a 0 alone, or a digit from 1 to 9
+/// and all the digits that follow. What isn't one, or spells more than `max`, is refused at its
+/// first octet.
 pub fn read_number(bytes: &[u8], at: usize, max: u64) -> Result<(u64, usize), Bad>
     requires { at ≤ length bytes.now }
     ensures value { result ≡ number_at bytes.now at max }
@@ -76,11 +78,13 @@ pub fn read_number(bytes: &[u8], at: usize, max: u64) -> Result<(u64, usize), Ba
     }
 }
 
-/// Each number has one spelling, the printed one: what is read is what would be printed, and what is printed is read,
-/// whatever follows it that is no digit.
+/// Each number has one spelling, the printed one: what is read is what would be printed, and what
+/// is printed is read, whatever follows it that is no digit.
 pub fn number_has_one_spelling()
-    ensures read_is_printed { (bytes : List ℕ) (at max n after : ℕ) → max < 2 ^ 64 → number_at bytes at max ≡ Ok (n, after)
+    ensures read_is_printed { (bytes : List ℕ) (at max n after : ℕ) → max < 2 ^ 64
+        → number_at bytes at max ≡ Ok (n, after)
         → (n ≤ max) × (take (after - at) (drop at bytes) ≡ decimal n) }
-    ensures printed_is_read { (n max at : ℕ) (tail : List ℕ) → n ≤ max → n < 2 ^ 64 → is_digit (slice_index tail 0) ≡ false
+    ensures printed_is_read { (n max at : ℕ) (tail : List ℕ) → n ≤ max → n < 2 ^ 64
+        → is_digit (slice_index tail 0) ≡ false
         → number_in max at (decimal n ++ tail) ≡ Ok (n, at + length (decimal n)) }
 {}

@@ -35,6 +35,7 @@ pub fn origin_of(text: &[u8]) -> Option<Origin>
 
 /// Each ORIGIN has one spelling: a text is one exactly where it is its word.
 pub fn origin_has_one_spelling()
-    ensures whole_is_printed { (text : List ℕ) (origin : Origin) → origin_of text ≡ Some origin → text ≡ origin_text origin }
+    ensures whole_is_printed { (text : List ℕ) (origin : Origin) → origin_of text ≡ Some origin
+        → text ≡ origin_text origin }
     ensures printed_is_whole { (origin : Origin) → origin_of (origin_text origin) ≡ Some origin }
 {}

@@ -15,8 +15,8 @@ use std::alloc::{AllocError, AllocFailed, Global};
 /// Why no path was read.
 #[derive(Clone, Copy, Debug, PartialEq, Eq)]
 pub enum PathAnswer {
-    /// No path stands there: the place of the first octet that can't stand where it does, or the end of
-    /// the text.
+    /// No path stands there: the place of the first octet that can't stand where it does, or the
+    /// end of the text.
     Bad { at: usize },
     /// Memory ran out.
     Memory,
@@ -77,9 +77,9 @@ fn read_numbers(alloc: Global, bytes: &[u8], at: usize) -> Result<(AsPath, usize
     }
 }
 
-/// The path at a place, and the place after it: a dash where there are no numbers, and else 1 to 255
-/// numbers up to 4294967295, joined by one space each. A further number is read only where one space and
-/// a digit follow; one that is too great, or the 256th, is refused at its first octet.
+/// The path at a place, and the place after it: a dash where there are no numbers, and else 1 to
+/// 255 numbers up to 4294967295, joined by one space each. A further number is read only where one
+/// space and a digit follow; one that is too great, or the 256th, is refused at its first octet.
 #[tactic(auto, unfolding(crate::specs::Atoms::path_at))]
 pub fn read_path(alloc: Global, bytes: &[u8], at: usize) -> Result<(AsPath, usize), PathAnswer>
     requires { at ≤ length bytes.now }
@@ -104,13 +104,18 @@ pub fn path_of(alloc: Global, text: &[u8]) -> Result<Option<AsPath>, AllocError>
 }
 
 /// Each path has one spelling, the printed one: what is read is what would be printed, and what is
-/// printed is read, whatever follows it that is neither a digit nor a space and a digit. So a text is a
-/// path as a whole exactly where it is a printed one.
+/// printed is read, whatever follows it that is neither a digit nor a space and a digit. So a text
+/// is a path as a whole exactly where it is a printed one.
 pub fn path_has_one_spelling()
-    ensures read_is_printed { (bytes : List ℕ) (at : ℕ) (path : List Asn) (after : ℕ) → path_at bytes at ≡ Ok (path, after)
+    ensures read_is_printed { (bytes : List ℕ) (at : ℕ) (path : List Asn) (after : ℕ)
+        → path_at bytes at ≡ Ok (path, after)
         → IsPath path × (take (after - at) (drop at bytes) ≡ path_text path) }
-    ensures printed_is_read { (bytes tail : List ℕ) (at : ℕ) (path : List Asn) → drop at bytes ≡ path_text path ++ tail → IsPath path → is_digit (slice_index tail 0) ≡ false → is_further tail ≡ false
+    ensures printed_is_read { (bytes tail : List ℕ) (at : ℕ) (path : List Asn)
+        → drop at bytes ≡ path_text path ++ tail → IsPath path
+        → is_digit (slice_index tail 0) ≡ false → is_further tail ≡ false
         → path_at bytes at ≡ Ok (path, at + length (path_text path)) }
-    ensures whole_is_printed { (text : List ℕ) (path : List Asn) → path_of text ≡ Some path → IsPath path × (text ≡ path_text path) }
-    ensures printed_is_whole { (path : List Asn) → IsPath path → path_of (path_text path) ≡ Some path }
+    ensures whole_is_printed { (text : List ℕ) (path : List Asn) → path_of text ≡ Some path
+        → IsPath path × (text ≡ path_text path) }
+    ensures printed_is_whole { (path : List Asn) → IsPath path
+        → path_of (path_text path) ≡ Some path }
 {}

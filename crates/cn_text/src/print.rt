@@ -1,5 +1,5 @@
-//! Atoms at the end of a text. Want of memory leaves the text as before: most are put by one call, and of a
-//! path what was put is taken back.
+//! Atoms at the end of a text. Want of memory leaves the text as before: most are put by one call,
+//! and of a path what was put is taken back.
 
 ghost use Rattle.std.specs.Prelude.{◌≡◌, ◌++◌, IfOk, OnOk, OnErr, length, string_bytes, take};
 ghost use Rattle.std.specs.Fmt.{decimal};
@@ -36,14 +36,24 @@ pub fn put_address(alloc: Global, out: &mut Vec<u8>, n: u32) -> Result<(), Alloc
     out.extend_from_slice(text.as_bytes())
 }
 
+fn prefix_text(alloc: Global, prefix: &Prefix) -> Result<String, AllocError>
+    ensures { IfOk result (λ text. string_bytes text ≡ prefix_text prefix.now) }
+{
+    let n = prefix.bits();
+    let a = n / 16_777_216;
+    let b = n / 65_536 % 256;
+    let c = n / 256 % 256;
+    let d = n % 256;
+    let len = prefix.len();
+    format!(in alloc; "{a}.{b}.{c}.{d}/{len}")
+}
+
 /// Appends a prefix.
 pub fn put_prefix(alloc: Global, out: &mut Vec<u8>, prefix: &Prefix) -> Result<(), AllocError>
     ensures ok { OnOk result (out.new.items ≡ out.old.items ++ prefix_text prefix.now) }
     ensures err { OnErr result (out.new.items ≡ out.old.items) }
 {
-    let address = address_text(alloc, prefix.bits())?;
-    let len = prefix.len();
-    let text = format!(in alloc; "{address}/{len}")?;
+    let text = prefix_text(alloc, prefix)?;
     out.extend_from_slice(text.as_bytes())
 }
 

@@ -3,7 +3,8 @@ use cn_base::{AsPath, Asn, Origin, Prefix};
 use std::alloc::{AllocError, Global};
 use std::test::Fail;
 
-// Texts, the place where a number up to 255 is read, and the number with the place after it, or the octet refused.
+// Texts, the place where a number up to 255 is read, and the number with the place after it, or the
+// octet refused.
 #[test]
 fn numbers(rt: HostRuntime) -> Result<(), Fail> {
     for (text, at, answer) in [

@@ -49,7 +49,10 @@ module _ {X : Type 0} (p : X → Bool) where
   -- what a search passes over doesn't pass the test
   pub passed_over : (xs : List X) (x : X) → find p xs ≡ None → Contains xs x → p x ≡ false
   passed_over [] x e (k, lt, is) = absurd (omega (arith, lt))
-  passed_over (y ∷ ys) x e (zero, lt, is) = elim (cases_Bool (p y)) [ inl t ↦ absurd (none-some y (sym e ∙ find_yes y ys t)) | inr f ↦ ap p (sym is) ∙ f ]
+  passed_over (y ∷ ys) x e (zero, lt, is) = elim (cases_Bool (p y)) [
+    | inl t ↦ absurd (none-some y (sym e ∙ find_yes y ys t))
+    | inr f ↦ ap p (sym is) ∙ f
+  ]
   passed_over (y ∷ ys) x e (suc k, lt, is) =
       elim (cases_Bool (p y)) [
         | inl t ↦ absurd (none-some y (sym e ∙ find_yes y ys t))
@@ -61,20 +64,29 @@ module _ {X : Type 0} (p : X → Bool) where
   found [] x e = absurd (none-some x e)
   found (y ∷ ys) x e =
       elim (cases_Bool (p y)) [
-        | inl t ↦ let same : y ≡ x = ap (λ (o : Option X). unwrap_or o y) (sym (find_yes y ys t) ∙ e) in ((0, omega arith, same), subst (λ z. p z ≡ true) same t)
-        | inr f ↦ let more = found ys x (sym (find_no y ys f) ∙ e) in let at = more.0 in ((suc at.0, omega (arith, at.1), at.2), more.1)
+        | inl t ↦
+            let same : y ≡ x = ap (λ (o : Option X). unwrap_or o y) (sym (find_yes y ys t) ∙ e) in
+            ((0, omega arith, same), subst (λ z. p z ≡ true) same t)
+        | inr f ↦
+            let more = found ys x (sym (find_no y ys f) ∙ e) in
+            let at = more.0 in ((suc at.0, omega (arith, at.1), at.2), more.1)
       ]
 
   -- nothing is found in a list whose elements all fail
   pub find_none : (xs : List X) → ((x : X) → Contains xs x → p x ≡ false) → find p xs ≡ None
   find_none [] h = refl
-  find_none (x ∷ xs) h = find_no x xs (h x (0, omega arith, refl)) ∙ find_none xs (λ y c. h y (suc c.0, omega (arith, c.1), c.2))
+  find_none (x ∷ xs) h =
+      find_no x xs (h x (0, omega arith, refl))
+      ∙ find_none xs (λ y c. h y (suc c.0, omega (arith, c.1), c.2))
 
 -- ---- one element after another
 
-module _ {X : Type 0} (p : X → Bool) (xs : List X) (k : ℕ) (x : X) (here : k < length xs) (is : x ≡ get_or xs k x) (so_far : find p (take k xs) ≡ None) where
+module _ {X : Type 0} (p : X → Bool) (xs : List X) (k : ℕ) (x : X) (here : k < length xs)
+    (is : x ≡ get_or xs k x) (so_far : find p (take k xs) ≡ None) where
   pub none_next : find p (x ∷ []) ≡ None → find p (take (k + 1) xs) ≡ None
-  none_next e = ap (find p) (take_more xs k x here ∙ (λ i. take k xs ++ sym is i ∷ [])) ∙ find_behind p (take k xs) (x ∷ []) so_far ∙ e
+  none_next e =
+      ap (find p) (take_more xs k x here ∙ (λ i. take k xs ++ sym is i ∷ []))
+      ∙ find_behind p (take k xs) (x ∷ []) so_far ∙ e
 
   pub first_next : (y : X) → find p (x ∷ []) ≡ Some y → find p xs ≡ Some y
   first_next y e =
@@ -85,26 +97,33 @@ module _ {X : Type 0} (p : X → Bool) (xs : List X) (k : ℕ) (x : X) (here : k
 
 -- ---- one list after another, each with some names
 
-module _ {Y : Type 0} (p : List ℕ → Bool) (names : Y → List (List ℕ)) (ys : List Y) (k : ℕ) (y : Y) (here : k < length ys) (is : y ≡ get_or ys k y) (so_far : find p (flat_map names (take k ys)) ≡ None) where
+module _ {Y : Type 0} (p : List ℕ → Bool) (names : Y → List (List ℕ)) (ys : List Y) (k : ℕ) (y : Y)
+    (here : k < length ys) (is : y ≡ get_or ys k y)
+    (so_far : find p (flat_map names (take k ys)) ≡ None) where
   pub none_more : find p (names y) ≡ None → find p (flat_map names (take (k + 1) ys)) ≡ None
   none_more e =
-      ap (λ (zs : List Y). find p (flat_map names zs)) (take_more ys k y here ∙ (λ i. take k ys ++ sym is i ∷ []))
+      ap (λ (zs : List Y). find p (flat_map names zs))
+      (take_more ys k y here ∙ (λ i. take k ys ++ sym is i ∷ []))
       ∙ ap (find p) (flat_map-append names (take k ys) (y ∷ []))
       ∙ find_behind p (flat_map names (take k ys)) (flat_map names (y ∷ [])) so_far
       ∙ find_behind p (names y) [] e
 
-  pub first_here : (name : List ℕ) → find p (names y) ≡ Some name → find p (flat_map names ys) ≡ Some name
+  pub first_here : (name : List ℕ) → find p (names y) ≡ Some name
+      → find p (flat_map names ys) ≡ Some name
   first_here name e =
       ap (λ (zs : List Y). find p (flat_map names zs)) (sym (take-append-drop k ys))
       ∙ ap (find p) (flat_map-append names (take k ys) (drop k ys))
       ∙ find_behind p (flat_map names (take k ys)) (flat_map names (drop k ys)) so_far
-      ∙ ap (λ (zs : List Y). find p (flat_map names zs)) (drop-cons ys k y here ∙ (λ i. sym is i ∷ drop (suc k) ys))
+      ∙ ap (λ (zs : List Y). find p (flat_map names zs))
+      (drop-cons ys k y here ∙ (λ i. sym is i ∷ drop (suc k) ys))
       ∙ find_front p (names y) (flat_map names (drop (suc k) ys)) name e
 
 -- ---- names and devices
 
-name_at : (net : Network) (d : DeviceId) (x : Device) → slice_get net.devices d.0 ≡ Some x → name_of net d ≡ x.name
-name_at net d x e = ap (λ (o : Option Device). unwrap_or (option_map (λ (y : Device). y.name) o) []) e
+name_at : (net : Network) (d : DeviceId) (x : Device) → slice_get net.devices d.0 ≡ Some x
+    → name_of net d ≡ x.name
+name_at net d x e =
+    ap (λ (o : Option Device). unwrap_or (option_map (λ (y : Device). y.name) o) []) e
 
 module _ (net : Network) (name : List ℕ) where
   bears : Device → Bool
@@ -112,42 +131,56 @@ module _ (net : Network) (name : List ℕ) where
 
   by_devices : is_written (draft_of net) name ≡ list_any bears net.devices
   unfolding bears
-  by_devices = list_any-map (λ (d : DeviceDraft). bytes_eq d.name name) device_draft net.devices
+  by_devices =
+      list_any-map (λ (d : DeviceDraft). bytes_eq d.name name) (device_draft net) net.devices
 
-  pub written : (d : DeviceId) → IsDevice net d → name_of net d ≡ name → is_written (draft_of net) name ≡ true
+  pub written : (d : DeviceId) → IsDevice net d → name_of net d ≡ name
+      → is_written (draft_of net) name ≡ true
   unfolding bears
   written d is e =
       elim (slice_get_cases net.devices d.0).1 [
         | inl r ↦
             let x = r.0 in
-            let one : bears x ≡ true = (bytes_eq-Decides x.name name).1 (sym (name_at net d x r.2) ∙ e) in
+            let one : bears x ≡ true =
+            (bytes_eq-Decides x.name name).1 (sym (name_at net d x r.2) ∙ e) in
             by_devices ∙ list_any_at bears net.devices d.0 x r.1 (ap bears r.3 ∙ one)
         | inr r ↦ absurd (omega (arith, r.0, is))
       ]
 
-  pub unwritten : ((d : DeviceId) → IsDevice net d → name_of net d ≢ name) → is_written (draft_of net) name ≡ false
+  pub unwritten : ((d : DeviceId) → IsDevice net d → name_of net d ≢ name)
+      → is_written (draft_of net) name ≡ false
   unfolding bears
   unwritten none =
       false_from_ne_true (is_written (draft_of net) name) (λ t.
       let at = Any-from_list_any bears net.devices (sym by_devices ∙ t) in
       let d : DeviceId = record { 0 = at.0 } in
-      let e : slice_get net.devices at.0 ≡ Some at.1 = slice_get-get_or net.devices at.0 at.1 at.2 ∙ ap Some at.3 in
+      let e : slice_get net.devices at.0 ≡ Some at.1 =
+      slice_get-get_or net.devices at.0 at.1 at.2 ∙ ap Some at.3 in
       none d at.2 (name_at net d at.1 e ∙ (bytes_eq-Decides at.1.name name).0 at.4))
 
 -- what a look for one name tells
 module _ (net : Network) (name : List ℕ) where
-  pub one_known : (d : DeviceId) → IsDevice net d → name_of net d ≡ name → first_unknown (draft_of net) (name ∷ []) ≡ None
-  one_known d is e = find_no (λ n. not (is_written (draft_of net) n)) name [] (ap not (written net name d is e))
+  pub one_known : (d : DeviceId) → IsDevice net d → name_of net d ≡ name
+      → first_unknown (draft_of net) (name ∷ []) ≡ None
+  one_known d is e =
+      find_no (λ n. not (is_written (draft_of net) n)) name [] (ap not (written net name d is e))
 
-  pub one_unknown : ((d : DeviceId) → IsDevice net d → name_of net d ≢ name) → first_unknown (draft_of net) (name ∷ []) ≡ Some name
-  one_unknown none = find_yes (λ n. not (is_written (draft_of net) n)) name [] (ap not (unwritten net name none))
+  pub one_unknown : ((d : DeviceId) → IsDevice net d → name_of net d ≢ name)
+      → first_unknown (draft_of net) (name ∷ []) ≡ Some name
+  one_unknown none =
+      find_yes (λ n. not (is_written (draft_of net) n)) name [] (ap not (unwritten net name none))
 
 -- ---- an unknown name that is handed on
 
-lifted : (small all : Option (List ℕ)) (e : NameAnswer) → ((name : List ℕ) → small ≡ Some name → all ≡ Some name) → IsFirstUnknown small e → IsFirstUnknown all e
+lifted : (small all : Option (List ℕ)) (e : NameAnswer)
+    → ((name : List ℕ) → small ≡ Some name → all ≡ Some name) → IsFirstUnknown small e
+    → IsFirstUnknown all e
 lifted small all (Unknown name) f u = f name u
 lifted small all Memory f u = tt
 
-pub handed_on : {T : Type 0} (r : Result T NameAnswer) (e : NameAnswer) (small all : Option (List ℕ)) → IsErr r → IsErrAnd r (λ x. x ≡ e) → ((name : List ℕ) → small ≡ Some name → all ≡ Some name) → IsFirstUnknown small e → TellsUnknown all r
+pub handed_on : {T : Type 0} (r : Result T NameAnswer) (e : NameAnswer)
+    (small all : Option (List ℕ))
+    → IsErr r → IsErrAnd r (λ x. x ≡ e) → ((name : List ℕ) → small ≡ Some name → all ≡ Some name)
+    → IsFirstUnknown small e → TellsUnknown all r
 handed_on (Ok x) e small all h k f u = absurd (cc h)
 handed_on (Err x) e small all h k f u = subst (IsFirstUnknown all) (sym k) (lifted small all e f u)

@@ -1,4 +1,5 @@
--- What the text of a plan stands for: a network, its emulated devices, and what is recorded of its devices.
+-- What the text of a plan stands for: a network, its emulated devices, and what is recorded of its
+-- devices.
 use Rattle.std.specs.Prelude.{◌≡◌, ℕ, ◌≤◌, Bool, false, List, length, map, All, Option, Some, None, Ok, option_map, unwrap_or}
 use Rattle.std.specs.List.{list_any}
 use Rattle.std.specs.Str.{bytes_eq}
@@ -11,7 +12,7 @@ use Rattle.cn_net.specs.Network.{Network, IsDevice, device_of, name_of}
 use Rattle.cn_net.specs.Valid.{IsValid}
 use Rattle.cn_net.specs.declared.device.Device.{Device}
 use Rattle.cn_readnet.specs.Plan.{plan_of}
-use Rattle.cn_plan.specs.Limits.{IsWithinLimits}
+use Rattle.cn_net.specs.Limits.{IsWithinLimits}
 use Rattle.cn_readnet.specs.declared.selection.NameSelection.{NameSelection}
 use Rattle.cn_readnet.specs.declared.selection.NameSelection.TheVariants.{Emulate, Must}
 use Rattle.cn_readnet.specs.declared.plan.NetText.{NetText}
@@ -51,7 +52,8 @@ pub record Selects (net : Network) (names : List (List ℕ)) (set : List DeviceI
 -- the devices that a plan names, or the set that is grown from those
 abbrev pub Chooses : Network → NameSelection → List DeviceId → Type 0
 Chooses net (Emulate names) set = Selects net names set
-Chooses net (Must names) set = (given : List DeviceId) × Selects net names given × IsGrown net given set
+Chooses net (Must names) set =
+    (given : List DeviceId) × Selects net names given × IsGrown net given set
 
 -- ---- records
 
@@ -68,7 +70,13 @@ pub record IsRowOf (net : Network) (row : Row) : Type 0 where
 -- the row as a plan writes it
 abbrev pub row_draft : Network → Row → RowDraft
 row_draft net row =
-    record { device = name_of net row.device; prefix = row.prefix; path = row.choice.path; origin = row.choice.origin; from = option_map (name_of net) row.choice.from }
+    record {
+      device = name_of net row.device;
+      prefix = row.prefix;
+      path = row.choice.path;
+      origin = row.choice.origin;
+      from = option_map (name_of net) row.choice.from;
+    }
 
 -- the rows read as these of a plan
 pub record ReadAs (net : Network) (drafts : List RowDraft) (rows : List Row) : Type 0 where
@@ -89,8 +97,9 @@ plan_limit = 16777216
 abbrev pub ReadsPlan : List ℕ → NetText → Type 0
 ReadsPlan bytes text = (length bytes ≤ plan_limit) × (plan_of bytes ≡ Ok text)
 
--- A plan as it is read describes a valid network, whose devices and links read as the plan's; the devices that it chooses;
--- and rows that read as the plan's, at most one for each device and prefix.
+-- A plan as it is read describes a valid network, whose devices and links read as the plan's; the
+-- devices that it chooses; and rows that read as the plan's, at most one for each device and
+-- prefix.
 pub record IsEmulationOf (text : NetText) (e : Emulation) : Type 0 where
   pub draft : draft_of e.net ≡ text.draft
   pub valid : IsValid e.net

@@ -6,11 +6,8 @@ use Rattle.cn_net.specs.declared.draft.Draft.{Draft}
 use Rattle.cn_net.specs.declared.fault.NetFault.{NetFault}
 use Rattle.cn_net.specs.declared.fault.NetFault.TheVariants as net
 use Rattle.cn_net.specs.declared.fault.What.{What}
-use Rattle.cn_net.specs.declared.fault.What.TheVariants.{Devices, Links, Prefixes}
-use Rattle.cn_plan.specs.declared.limits.TooMany.{TooMany}
-use Rattle.cn_plan.specs.declared.limits.TooMany.TheVariants.{Emulated, Rows}
-use Rattle.cn_report.specs.Answers.{newline}
-use Rattle.cn_text.specs.Printed.{address, prefix_text}
+use Rattle.cn_net.specs.declared.fault.What.TheVariants.{Devices, Links, Prefixes, Emulated, Rows}
+use Rattle.cn_text.specs.Printed.{newline, address, prefix_text}
 use Rattle.cn_top.specs.declared.fault.PlanFault.{PlanFault}
 use Rattle.cn_top.specs.declared.fault.PlanFault.TheVariants as plan
 
@@ -28,10 +25,8 @@ abbrev pub what_word : What → List ℕ
 what_word Devices = codes "devices"
 what_word Links = codes "links"
 what_word Prefixes = codes "prefixes"
-
-abbrev pub chosen_word : TooMany → List ℕ
-chosen_word Emulated = codes "emulated"
-chosen_word Rows = codes "rows"
+what_word Emulated = codes "emulated"
+what_word Rows = codes "rows"
 
 abbrev pub too_many_text : List ℕ → ℕ → List ℕ
 too_many_text word count = codes "too many " ++ word ++ codes " " ++ decimal count
@@ -42,18 +37,25 @@ unknown_text name = codes "unknown name " ++ name
 abbrev pub net_fault_text : Draft → NetFault → List ℕ
 net_fault_text draft (net.TooMany what count) = too_many_text (what_word what) count
 net_fault_text draft (net.DuplicateName name) = codes "name " ++ name ++ codes " twice"
-net_fault_text draft (net.DuplicateId a b) = codes "router id " ++ address (written_id draft b) ++ codes " twice: " ++ written_pair draft a b
-net_fault_text draft (net.DuplicateOwn device prefix) = codes "own " ++ prefix_text prefix ++ codes " twice in " ++ written_name draft device
+net_fault_text draft (net.DuplicateId a b) =
+    codes "router id " ++ address (written_id draft b) ++ codes " twice: " ++ written_pair draft a b
+net_fault_text draft (net.DuplicateOwn device prefix) =
+    codes "own " ++ prefix_text prefix ++ codes " twice in " ++ written_name draft device
 net_fault_text draft (net.UnknownName name) = unknown_text name
+net_fault_text draft (net.DuplicatePeer device peer) =
+    codes "peer " ++ written_name draft peer ++ codes " twice in " ++ written_name draft device
 net_fault_text draft (net.SelfLink device) = codes "self link " ++ written_name draft device
-net_fault_text draft (net.DuplicateLink a b) = codes "link " ++ written_pair draft a b ++ codes " twice"
+net_fault_text draft (net.DuplicateLink a b) =
+    codes "link " ++ written_pair draft a b ++ codes " twice"
 net_fault_text draft (net.SameAs a b) = codes "same as number " ++ written_pair draft a b
 
 abbrev pub plan_fault_text : Draft → PlanFault → List ℕ
 plan_fault_text draft (plan.Net fault) = net_fault_text draft fault
 plan_fault_text draft (plan.Unknown name) = unknown_text name
-plan_fault_text draft (plan.Repeat device prefix) = codes "record " ++ written_name draft device ++ codes " " ++ prefix_text prefix ++ codes " twice"
-plan_fault_text draft (plan.TooMany what count) = too_many_text (chosen_word what) count
+plan_fault_text draft (plan.Repeat device prefix) =
+    codes "record " ++ written_name draft device ++ codes " " ++ prefix_text prefix
+    ++ codes " twice"
+plan_fault_text draft (plan.TooMany what count) = too_many_text (what_word what) count
 
 abbrev pub bad_net_line : Draft → PlanFault → List ℕ
 bad_net_line draft fault = codes "bad net: " ++ plan_fault_text draft fault ++ newline

@@ -7,7 +7,7 @@ use Rattle.cn_net.specs.Faults.{fault_of}
 use Rattle.cn_net.specs.Network.{Network}
 use Rattle.cn_net.specs.Valid.{IsValid}
 use Rattle.cn_net.specs.declared.draft.Draft.{Draft}
-use Rattle.cn_plan.specs.Limits.{PassesLimit}
+use Rattle.cn_net.specs.Limits.{PassesLimit}
 use Rattle.cn_readnet.specs.declared.selection.NameSelection.{NameSelection}
 use Rattle.cn_readnet.specs.declared.selection.NameSelection.TheVariants.{Emulate, Must}
 use Rattle.cn_readnet.specs.declared.plan.NetText.{NetText}
@@ -52,14 +52,19 @@ first_unknown draft names = find (λ n. not (is_written draft n)) names
 abbrev pub IsKnown : NetText → Type 0
 IsKnown text = (fault_of text.draft ≡ None) × (first_unknown text.draft (plan_names text) ≡ None)
 
--- The first fault of its network; then the first name of no device; then the least device and prefix of which there are two
--- rows; then the number of emulated devices, or of rows for the core to keep, that is past its limit.
+-- The first fault of its network; then the first name of no device; then the least device and
+-- prefix of which there are two rows; then the number of emulated devices, or of rows for the core
+-- to keep, that is past its limit.
 abbrev pub IsPlanFault : NetText → PlanFault → Type 0
 IsPlanFault text (fault.Net f) = fault_of text.draft ≡ Some f
-IsPlanFault text (fault.Unknown name) = (fault_of text.draft ≡ None) × (first_unknown text.draft (plan_names text) ≡ Some name)
+IsPlanFault text (fault.Unknown name) =
+    (fault_of text.draft ≡ None) × (first_unknown text.draft (plan_names text) ≡ Some name)
 IsPlanFault text (fault.Repeat device prefix) =
-    IsKnown text × ((net : Network) × (rows : List Row) × (draft_of net ≡ text.draft) × IsValid net × ReadAs net text.rows rows × IsFirstRepeat rows device prefix)
-IsPlanFault text (fault.TooMany what count) = (e : Emulation) × IsEmulationOf text e × PassesLimit e.net e.emulated what count
+    IsKnown text
+    × ((net : Network) × (rows : List Row) × (draft_of net ≡ text.draft) × IsValid net
+    × ReadAs net text.rows rows × IsFirstRepeat rows device prefix)
+IsPlanFault text (fault.TooMany what count) =
+    (e : Emulation) × IsEmulationOf text e × PassesLimit e.net e.emulated what count
 
 -- ---- what a look for names answers
 
@@ -68,6 +73,7 @@ abbrev pub IsFirstUnknown : Option (List ℕ) → NameAnswer → Type 0
 IsFirstUnknown first (Unknown name) = first ≡ Some name
 IsFirstUnknown first Memory = Unit {0}
 
--- what is answered tells of the first unknown name: Ok that there is none, an unknown name that it is the first
+-- what is answered tells of the first unknown name: Ok that there is none, an unknown name that it
+-- is the first
 abbrev pub TellsUnknown : {T : Type 0} → Option (List ℕ) → Result T NameAnswer → Type 0
 TellsUnknown first answer = MatchResult answer (λ _. first ≡ None) (IsFirstUnknown first)

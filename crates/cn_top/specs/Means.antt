@@ -5,8 +5,11 @@ use Rattle.cn_top.specs.Plan.{AnswersHeld, IsUnread, unbuilt_answer, usage_answe
 use Rattle.cn_top.specs.Serial.{MeansLine}
 use Rattle.cn_top.specs.declared.answer.Answer.{Answer}
 
-abbrev pub Means : Form → Bool → (List ℕ → Option (List ℕ)) → (List ℕ → ℕ) → (List ℕ → ℕ) → Answer → Type 0
-Means (plan_form file) tells held before now answer = IsUnread file before now answer ⊎ AnswersHeld tells (held file) answer
-Means (serial_form file script trace) tells held before now answer = MeansLine file script tells held before now answer
+abbrev pub Means : Form → Bool → (List ℕ → Option (List ℕ)) → (List ℕ → ℕ) → (List ℕ → ℕ) → Answer
+    → Type 0
+Means (plan_form file) tells held before now answer =
+    IsUnread file before now answer ⊎ AnswersHeld tells (held file) answer
+Means (serial_form file script trace) tells held before now answer =
+    MeansLine file script tells held before now answer
 Means (later_form word) tells held before now answer = answer ≡ unbuilt_answer word
 Means usage_form tells held before now answer = answer ≡ usage_answer

@@ -41,9 +41,11 @@ plan_answer o = record { status = status.Ok; text = plan_text o }
 abbrev pub AnswersBoundary : Network → (DeviceId → Bool) → List Row → Answer → Type 0
 AnswersBoundary net outside rows answer =
     ((o : Opening) × IsSafeOpening net outside rows o × (answer ≡ plan_answer o))
-    ⊎ ((fault : BoundaryFault) × IsFirstFault net outside rows fault × (answer ≡ refused_answer net fault))
+    ⊎ ((fault : BoundaryFault) × IsFirstFault net outside rows fault
+    × (answer ≡ refused_answer net fault))
 
--- The answer to a plan as it is read: that of its boundary where it stands for an emulation, and else why it stands for none.
+-- The answer to a plan as it is read: that of its boundary where it stands for an emulation, and
+-- else why it stands for none.
 abbrev pub AnswersPlan : NetText → Answer → Type 0
 AnswersPlan text answer =
     ((e : Emulation) × PlanStandsFor text e × AnswersBoundary e.net (is_outside e) e.rows answer)
@@ -57,7 +59,8 @@ AnswersText bytes answer =
 
 -- The answer is that of the bytes that the name held, where the shelf tells them.
 abbrev pub AnswersHeld : Bool → Option (List ℕ) → Answer → Type 0
-AnswersHeld tells held answer = (bytes : List ℕ) × (IsTrue tells → held ≡ Some bytes) × AnswersText bytes answer
+AnswersHeld tells held answer =
+    (bytes : List ℕ) × (IsTrue tells → held ≡ Some bytes) × AnswersText bytes answer
 
 -- A fault of reading is meant only where the count of the name rose.
 abbrev pub IsUnread : List ℕ → (List ℕ → ℕ) → (List ℕ → ℕ) → Answer → Type 0

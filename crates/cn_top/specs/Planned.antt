@@ -1,4 +1,5 @@
--- What is made of a plan: its opening with records, where the boundary is safe, or the line that `plan` and `serial` answer.
+-- What is made of a plan: its opening with records, where the boundary is safe, or the line that
+-- `plan` and `serial` answer.
 use Rattle.std.specs.Prelude.{◌≡◌, ◌≢◌, ◌⊎◌, ℕ, Bool, IsTrue, List, Option, Some}
 use Rattle.std.specs.List.Sorted.{IsPermutation}
 use Rattle.cn_net.specs.Network.{Network}
@@ -25,18 +26,23 @@ IsRefusing answer = answer.status ≢ status.Ok
 
 -- the line of what `plan` of `cn_plan` answers
 abbrev pub IsLineOf : Network → Draft → PlanAnswer → Answer → Type 0
-IsLineOf net draft (plan.TooMany what count) answer = answer ≡ bad_net_answer draft (fault.TooMany what count)
-IsLineOf net draft (plan.Refused kept refusal) answer = answer ≡ refused_answer kept (of_certificate refusal)
-IsLineOf net draft (plan.Unsound kept d p held wanted) answer = answer ≡ refused_answer kept (of_record d p held wanted)
+IsLineOf net draft (plan.TooMany what count) answer =
+    answer ≡ bad_net_answer draft (fault.TooMany what count)
+IsLineOf net draft (plan.Refused kept refusal) answer =
+    answer ≡ refused_answer kept (of_certificate refusal)
+IsLineOf net draft (plan.Unsound kept d p held wanted) answer =
+    answer ≡ refused_answer kept (of_record d p held wanted)
 IsLineOf net draft plan.Memory answer = ⊥
 
 -- what is made of a network, the devices that are selected, and rows
 abbrev pub PlansChosen : Network → Selection → List Row → Draft → Planned → Type 0
-PlansChosen net selection rows draft (planned.Recorded r) = IsPlan net selection rows r × IsRecorded r
-PlansChosen net selection rows draft (planned.Line answer) = (why : PlanAnswer) × AnswersSelected net selection rows why × IsLineOf net draft why answer
+PlansChosen net selection rows draft (planned.Recorded r) =
+    IsPlan net selection rows r × IsRecorded r
+PlansChosen net selection rows draft (planned.Line answer) =
+    (why : PlanAnswer) × AnswersSelected net selection rows why × IsLineOf net draft why answer
 
--- what an emulation opens with: its network and its emulated devices with the islands of the others, behind a safe boundary,
--- and its rows by device and then by prefix
+-- what an emulation opens with: its network and its emulated devices with the islands of the
+-- others, behind a safe boundary, and its rows by device and then by prefix
 pub record Opens (e : Emulation) (r : RecordedOpening) : Type 0 where
   pub safe : IsSafeOpening e.net (is_outside e) e.rows r.opening
   pub recorded : IsRecorded r
@@ -57,6 +63,9 @@ PlansText bytes (planned.Line answer) = AnswersText bytes answer × IsRefusing a
 PlansText bytes (planned.Recorded r) = OpensText bytes r
 
 -- what is made of the text that a name held, where the shelf tells it; or the name couldn't be read
-abbrev pub PlansHeld : List ℕ → Bool → Option (List ℕ) → (List ℕ → ℕ) → (List ℕ → ℕ) → Planned → Type 0
-PlansHeld file tells held before now (planned.Line answer) = (IsUnread file before now answer ⊎ AnswersHeld tells held answer) × IsRefusing answer
-PlansHeld file tells held before now (planned.Recorded r) = (bytes : List ℕ) × (IsTrue tells → held ≡ Some bytes) × OpensText bytes r
+abbrev pub PlansHeld : List ℕ → Bool → Option (List ℕ) → (List ℕ → ℕ) → (List ℕ → ℕ) → Planned
+    → Type 0
+PlansHeld file tells held before now (planned.Line answer) =
+    (IsUnread file before now answer ⊎ AnswersHeld tells held answer) × IsRefusing answer
+PlansHeld file tells held before now (planned.Recorded r) =
+    (bytes : List ℕ) × (IsTrue tells → held ≡ Some bytes) × OpensText bytes r

@@ -3,7 +3,7 @@ use Rattle.std.specs.Prelude.{◌≡◌, ℕ, List, All, Option, option_map}
 use Rattle.cn_base.specs.declared.ids.DeviceId.{DeviceId}
 use Rattle.cn_net.specs.Islands.{IsAscending}
 use Rattle.cn_net.specs.Network.{Network, IsDevice, name_of}
-use Rattle.cn_plan.specs.Limits.{named}
+use Rattle.cn_plan.specs.Selected.{named}
 use Rattle.cn_plan.specs.declared.selection.Selection.{Selection}
 use Rattle.cn_plan.specs.declared.selection.Selection.TheVariants as devices
 use Rattle.cn_readnet.specs.declared.selection.NameSelection.{NameSelection}

@@ -4,7 +4,7 @@ use Rattle.cn_core.specs.declared.answer.Answer.{Answer as CommandAnswer}
 use Rattle.cn_core.specs.Machine.{IsRun}
 use Rattle.cn_net.specs.Network.{Network}
 use Rattle.cn_readscript.specs.Script.{script_of}
-use Rattle.cn_readscript.specs.declared.command.Command.{Command}
+use Rattle.cn_change.specs.declared.command.Command.{Command}
 use Rattle.cn_record.specs.Recorded.{RecordedOpening}
 use Rattle.cn_report.specs.Answers.{answer_text}
 use Rattle.cn_serial.specs.Serial.{AreAnswers, play_of}
@@ -35,9 +35,10 @@ answer_texts net k [] answers = []
 answer_texts net k (c ∷ cs) [] = []
 answer_texts net k (c ∷ cs) (a ∷ more) = answer_text net k c a ∷ answer_texts net (k + 1) cs more
 
--- What comes of a script in the serial order from a recorded opening: the trace of its play, each event of which was
--- enabled where it happened, and the texts of the answers to its commands. A pull that is answered quiet shows the tables of
--- the emulated devices in the one stable state of the whole network (`IsPulled`).
+-- What comes of a script in the serial order from a recorded opening: the trace of its play, each
+-- event of which was enabled where it happened, and the texts of the answers to its commands. A
+-- pull that is answered quiet shows the tables of the emulated devices in the one stable state of
+-- the whole network (`IsPulled`).
 pub record IsRunOf (r : RecordedOpening) (commands : List Command) (run : Run) : Type 0 where
   pub happened : IsRun r (play_of r commands)
   pub answers : List CommandAnswer
@@ -48,17 +49,24 @@ pub record IsRunOf (r : RecordedOpening) (commands : List Command) (run : Run) :
 -- ---- what is meant
 
 -- the line in place of a run: the script couldn't be read, or isn't one
-abbrev pub ScriptsLine : List ℕ → Bool → Option (List ℕ) → (List ℕ → ℕ) → (List ℕ → ℕ) → Answer → Type 0
+abbrev pub ScriptsLine : List ℕ → Bool → Option (List ℕ) → (List ℕ → ℕ) → (List ℕ → ℕ) → Answer
+    → Type 0
 ScriptsLine script tells held before now answer =
-    IsUnread script before now answer ⊎ ((bytes : List ℕ) × (IsTrue tells → held ≡ Some bytes) × ScriptsNone bytes × (answer ≡ unbuilt_answer (codes "script text")))
+    IsUnread script before now answer
+    ⊎ ((bytes : List ℕ) × (IsTrue tells → held ≡ Some bytes) × ScriptsNone bytes
+    × (answer ≡ unbuilt_answer (codes "script text")))
 
 -- a line in place of a run: that of the plan, or, where that opens an emulation, that of the script
-abbrev pub MeansLine : List ℕ → List ℕ → Bool → (List ℕ → Option (List ℕ)) → (List ℕ → ℕ) → (List ℕ → ℕ) → Answer → Type 0
+abbrev pub MeansLine : List ℕ → List ℕ → Bool → (List ℕ → Option (List ℕ)) → (List ℕ → ℕ)
+    → (List ℕ → ℕ) → Answer → Type 0
 MeansLine file script tells held before now answer =
     ((IsUnread file before now answer ⊎ AnswersHeld tells (held file) answer) × IsRefusing answer)
-    ⊎ ((plan : List ℕ) × (r : RecordedOpening) × (IsTrue tells → held file ≡ Some plan) × OpensText plan r × ScriptsLine script tells (held script) before now answer)
+    ⊎ ((plan : List ℕ) × (r : RecordedOpening) × (IsTrue tells → held file ≡ Some plan)
+    × OpensText plan r × ScriptsLine script tells (held script) before now answer)
 
 -- what comes of the opening and the script for which the two files stood
 abbrev pub MeansRun : List ℕ → List ℕ → Bool → (List ℕ → Option (List ℕ)) → Run → Type 0
-MeansRun file script tells held run = (plan bytes : List ℕ) × (r : RecordedOpening) × (commands : List Command) × (IsTrue tells → held file ≡ Some plan) × OpensText plan r
+MeansRun file script tells held run =
+    (plan bytes : List ℕ) × (r : RecordedOpening) × (commands : List Command)
+    × (IsTrue tells → held file ≡ Some plan) × OpensText plan r
     × (IsTrue tells → held script ≡ Some bytes) × Scripts bytes commands × IsRunOf r commands run

@@ -57,7 +57,8 @@ impl Answer {
 
     /// The boundary isn't certified.
     pub fn refused(alloc: Global, net: &Net, refusal: &Refusal) -> Result<Answer, AllocError>
-        ensures { IfOk result (λ answer. answer ≡ refused_answer net.now (of_certificate refusal.now)) }
+        ensures { IfOk result
+            (λ answer. answer ≡ refused_answer net.now (of_certificate refusal.now)) }
     {
         let text = Items::make(texts::refused_line(alloc, net, refusal)?);
         Ok(Answer {
@@ -75,7 +76,9 @@ impl Answer {
         held: Option<&Choice>,
         wanted: Option<&Choice>,
     ) -> Result<Answer, AllocError>
-        ensures { IfOk result (λ answer. answer ≡ refused_answer net.now (of_record device prefix.now (option_copied held.entry) (option_copied wanted.entry))) }
+        ensures { IfOk result (λ answer. answer
+            ≡ refused_answer net.now
+            (of_record device prefix.now (option_copied held.entry) (option_copied wanted.entry))) }
     {
         let text = Items::make(texts::unsound_line(alloc, net, device, prefix, held, wanted)?);
         Ok(Answer {

@@ -4,8 +4,7 @@ ghost use Rattle.std.specs.Prelude.{◌≡◌};
 ghost use Rattle.cn_top.specs.declared.fault.NameAnswer.TheVariants.{Memory};
 
 use cn_base::{DeviceId, Name, Prefix};
-use cn_net::NetFault;
-use cn_plan::TooMany;
+use cn_net::{NetFault, What};
 use std::alloc::{AllocError, AllocFailed};
 
 /// Why a plan that is read stands for no emulation. Device numbers are places in the plan, from 0.
@@ -17,8 +16,9 @@ pub enum PlanFault {
     Unknown(Name),
     /// Two records have this device and prefix.
     Repeat { device: DeviceId, prefix: Prefix },
-    /// There are so many emulated devices, or so many rows for the core to keep, which is more than there may be.
-    TooMany { what: TooMany, count: u64 },
+    /// There are so many emulated devices, or so many rows for the core to keep, which is more than
+    /// there may be.
+    TooMany { what: What, count: u64 },
 }
 
 /// Why names give no devices: one is no device's, or memory ran out.

@@ -1,14 +1,13 @@
 //! The line of a plan that stands for no emulation.
 
 ghost use Rattle.std.specs.Prelude.{◌≡◌, ◌++◌, IfOk, OnOk};
-ghost use Rattle.cn_net.specs.declared.fault.NetFault.TheVariants.{DuplicateId, DuplicateLink, DuplicateOwn, SameAs};
+ghost use Rattle.cn_net.specs.declared.fault.NetFault.TheVariants.{DuplicateId, DuplicateLink, DuplicateOwn, DuplicatePeer, SameAs};
 ghost use Rattle.cn_top.specs.declared.fault.PlanFault.TheVariants.{Repeat};
-ghost use Rattle.cn_top.specs.FaultTexts.{bad_net_line, chosen_word, net_fault_text, plan_fault_text, too_many_text, unknown_text, what_word, written_id, written_name, written_pair};
+ghost use Rattle.cn_top.specs.FaultTexts.{bad_net_line, net_fault_text, plan_fault_text, too_many_text, unknown_text, what_word, written_id, written_name, written_pair};
 
 use crate::fault::PlanFault;
 use cn_base::{DeviceId, Name, Prefix};
 use cn_net::{Draft, NetFault, What};
-use cn_plan::TooMany;
 use cn_text::{put_address, put_number, put_prefix};
 use std::alloc::{AllocError, Global};
 
@@ -52,15 +51,8 @@ fn what_word(what: What) -> &'static [u8]
         What::Devices => b"devices",
         What::Links => b"links",
         What::Prefixes => b"prefixes",
-    }
-}
-
-fn chosen_word(what: TooMany) -> &'static [u8]
-    ensures { result.now ≡ chosen_word what }
-{
-    match what {
-        TooMany::Emulated => b"emulated",
-        TooMany::Rows => b"rows",
+        What::Emulated => b"emulated",
+        What::Rows => b"rows",
     }
 }
 
@@ -96,7 +88,8 @@ fn put_same_id(
     a: DeviceId,
     b: DeviceId,
 ) -> Result<(), AllocError>
-    ensures { OnOk result (text.new.items ≡ text.old.items ++ net_fault_text draft.now (DuplicateId a b)) }
+    ensures { OnOk result
+        (text.new.items ≡ text.old.items ++ net_fault_text draft.now (DuplicateId a b)) }
 {
     text.extend_from_slice(b"router id ")?;
     put_address(alloc, text, written_id(draft, b))?;
@@ -112,7 +105,9 @@ fn put_same_own(
     device: DeviceId,
     prefix: &Prefix,
 ) -> Result<(), AllocError>
-    ensures { OnOk result (text.new.items ≡ text.old.items ++ net_fault_text draft.now (DuplicateOwn device prefix.now)) }
+    ensures { OnOk result
+        (text.new.items
+        ≡ text.old.items ++ net_fault_text draft.now (DuplicateOwn device prefix.now)) }
 {
     text.extend_from_slice(b"own ")?;
     put_prefix(alloc, text, prefix)?;
@@ -127,7 +122,8 @@ fn put_same_link(
     a: DeviceId,
     b: DeviceId,
 ) -> Result<(), AllocError>
-    ensures { OnOk result (text.new.items ≡ text.old.items ++ net_fault_text draft.now (DuplicateLink a b)) }
+    ensures { OnOk result
+        (text.new.items ≡ text.old.items ++ net_fault_text draft.now (DuplicateLink a b)) }
 {
     text.extend_from_slice(b"link ")?;
     put_written_pair(text, draft, a, b)?;
@@ -148,6 +144,22 @@ fn put_unknown(text: &mut Vec<u8>, name: &Name) -> Result<(), AllocError>
     put_text(text, name)
 }
 
+/// A device lists a peer twice.
+fn put_same_peer(
+    text: &mut Vec<u8>,
+    draft: &Draft,
+    device: DeviceId,
+    peer: DeviceId,
+) -> Result<(), AllocError>
+    ensures { OnOk result
+        (text.new.items ≡ text.old.items ++ net_fault_text draft.now (DuplicatePeer device peer)) }
+{
+    text.extend_from_slice(b"peer ")?;
+    put_written(text, draft, peer)?;
+    text.extend_from_slice(b" twice in ")?;
+    put_written(text, draft, device)
+}
+
 /// The ends of a link have one AS number.
 fn put_same_as(
     text: &mut Vec<u8>,
@@ -155,7 +167,8 @@ fn put_same_as(
     a: DeviceId,
     b: DeviceId,
 ) -> Result<(), AllocError>
-    ensures { OnOk result (text.new.items ≡ text.old.items ++ net_fault_text draft.now (SameAs a b)) }
+    ensures { OnOk result
+        (text.new.items ≡ text.old.items ++ net_fault_text draft.now (SameAs a b)) }
 {
     text.extend_from_slice(b"same as number ")?;
     put_written_pair(text, draft, a, b)
@@ -180,6 +193,7 @@ fn put_net_fault(
             put_same_own(alloc, text, draft, *device, prefix)
         }
         NetFault::UnknownName { name } => put_unknown(text, name),
+        NetFault::DuplicatePeer { device, peer } => put_same_peer(text, draft, *device, *peer),
         NetFault::SelfLink { device } => {
             text.extend_from_slice(b"self link ")?;
             put_written(text, draft, *device)
@@ -197,7 +211,8 @@ fn put_repeat(
     device: DeviceId,
     prefix: &Prefix,
 ) -> Result<(), AllocError>
-    ensures { OnOk result (text.new.items ≡ text.old.items ++ plan_fault_text draft.now (Repeat device prefix.now)) }
+    ensures { OnOk result
+        (text.new.items ≡ text.old.items ++ plan_fault_text draft.now (Repeat device prefix.now)) }
 {
     text.extend_from_slice(b"record ")?;
     put_written(text, draft, device)?;
@@ -220,7 +235,7 @@ fn put_plan_fault(
         PlanFault::Unknown(name) => put_unknown(text, name),
         PlanFault::Repeat { device, prefix } => put_repeat(alloc, text, draft, *device, prefix),
         PlanFault::TooMany { what, count } => {
-            put_too_many(alloc, text, chosen_word(*what), *count)
+            put_too_many(alloc, text, what_word(*what), *count)
         }
     }
 }

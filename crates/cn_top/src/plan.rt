@@ -8,7 +8,7 @@ ghost use Rattle.cn_top.specs.Emulation.{plan_limit};
 ghost use Rattle.cn_top.specs.Form.{plan_form};
 ghost use Rattle.cn_top.specs.Means.{Means};
 ghost use Rattle.cn_top.specs.Plan.{bad_net_answer, unbuilt_answer};
-ghost use Rattle.cn_plan.specs.Limits.{named};
+ghost use Rattle.cn_plan.specs.Selected.{named};
 ghost use Rattle.cn_top.specs.declared.plan.Planned.TheVariants.{Line};
 ghost use Rattle.cn_top.specs.Planned.{PlansChosen, PlansHeld, PlansPlan, PlansText};
 
@@ -144,7 +144,9 @@ fn plan_text(alloc: Global, bytes: &[u8]) -> Result<Planned, AllocError>
 
 /// What is made of the plan that a name holds.
 pub fn plan_held<S: Shelf>(alloc: Global, file: &str, shelf: &mut S) -> Result<Planned, AllocError>
-    ensures planned { IfOk result (PlansHeld file.now S.tells (S.held shelf.old file.now) (S.read_faults shelf.old) (S.read_faults shelf.new)) }
+    ensures planned { IfOk result
+        (PlansHeld file.now S.tells (S.held shelf.old file.now) (S.read_faults shelf.old)
+        (S.read_faults shelf.new)) }
     ensures held { SameAtEach (S.held shelf.old) (S.held shelf.new) }
     ensures reads { RisesOnlyAt file.now (S.read_faults shelf.old) (S.read_faults shelf.new) }
     ensures writes { SameAtEach (S.write_faults shelf.old) (S.write_faults shelf.new) }
@@ -159,7 +161,9 @@ pub fn plan_held<S: Shelf>(alloc: Global, file: &str, shelf: &mut S) -> Result<P
 
 /// What `plan FILE` means to answer.
 pub fn plan_means<S: Shelf>(alloc: Global, file: &str, shelf: &mut S) -> Result<Answer, AllocError>
-    ensures means { IfOk result (Means (plan_form file.now) S.tells (S.held shelf.old) (S.read_faults shelf.old) (S.read_faults shelf.new)) }
+    ensures means { IfOk result
+        (Means (plan_form file.now) S.tells (S.held shelf.old) (S.read_faults shelf.old)
+        (S.read_faults shelf.new)) }
     ensures held { SameAtEach (S.held shelf.old) (S.held shelf.new) }
     ensures reads { RisesOnlyAt file.now (S.read_faults shelf.old) (S.read_faults shelf.new) }
     ensures writes { SameAtEach (S.write_faults shelf.old) (S.write_faults shelf.new) }

@@ -29,7 +29,8 @@ pub fn device_of(alloc: Global, net: &Net, name: &Name) -> Result<DeviceId, Name
 /// The device that a row's route came from, if one is named.
 fn sender_of(alloc: Global, net: &Net, from: Option<&Name>) -> Result<Option<DeviceId>, NameAnswer>
     ensures sender { IfOk result (IsSenderOf net.now (option_copied from.entry)) }
-    ensures unknown { TellsUnknown (first_unknown (draft_of net.now) (sender_names (option_copied from.entry))) result }
+    ensures unknown { TellsUnknown
+        (first_unknown (draft_of net.now) (sender_names (option_copied from.entry))) result }
 {
     match from {
         None => Ok(None),
@@ -59,7 +60,8 @@ fn row_of(alloc: Global, net: &Net, draft: &RowDraft) -> Result<Row, NameAnswer>
 /// The rows that are written so.
 pub fn rows_of(alloc: Global, net: &Net, drafts: &[RowDraft]) -> Result<Vec<Row>, NameAnswer>
     ensures rows { IfOk result (λ v. ReadAs net.now drafts.now v.items) }
-    ensures unknown { TellsUnknown (first_unknown (draft_of net.now) (flat_map row_names drafts.now)) result }
+    ensures unknown { TellsUnknown
+        (first_unknown (draft_of net.now) (flat_map row_names drafts.now)) result }
 {
     let mut rows = Vec::with_capacity(alloc, drafts.len())?;
     for draft in drafts {

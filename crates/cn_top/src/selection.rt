@@ -19,7 +19,8 @@ use std::alloc::{AllocError, Global};
 
 /// The devices that bear these names.
 fn devices_of(alloc: Global, net: &Net, names: &[Name]) -> Result<DeviceSet, NameAnswer>
-    ensures devices { IfOk result (λ set. Selects net.now names.now set × All (IsDevice net.now) set × IsAscending set) }
+    ensures devices { IfOk result
+        (λ set. Selects net.now names.now set × All (IsDevice net.now) set × IsAscending set) }
     ensures unknown { TellsUnknown (first_unknown (draft_of net.now) names.now) result }
 {
     net.valid();
@@ -40,8 +41,10 @@ pub fn selection_of(
     net: &Net,
     selection: &NameSelection,
 ) -> Result<Selection, NameAnswer>
-    ensures devices { IfOk result (λ s. IsSelectionOf net.now selection.now s × IsWithin net.now s) }
-    ensures unknown { TellsUnknown (first_unknown (draft_of net.now) (selection_names selection.now)) result }
+    ensures devices { IfOk result
+        (λ s. IsSelectionOf net.now selection.now s × IsWithin net.now s) }
+    ensures unknown { TellsUnknown
+        (first_unknown (draft_of net.now) (selection_names selection.now)) result }
 {
     match selection {
         NameSelection::Must(names) => {

@@ -9,10 +9,11 @@ ghost use Rattle.cn_top.specs.Serial.{IsRunOf, answer_texts, script_limit};
 use crate::answer::Answer;
 use crate::plan::{Planned, plan_held};
 use cn_base::Items;
+use cn_change::{Command, Script};
 use cn_core::Answer as CommandAnswer;
 use cn_net::Net;
 use cn_outside::{ReadAnswer, Shelf};
-use cn_readscript::{Command, Script, read_script};
+use cn_readscript::read_script;
 use cn_record::Recorded;
 use cn_report::print_answer;
 use cn_serial::run_serial;
@@ -95,7 +96,9 @@ fn script_held<S: Shelf>(
     script: &str,
     shelf: &mut S,
 ) -> Result<Meant, AllocError>
-    ensures means { IfOk result (ScriptHeldMeans recorded script.now S.tells (S.held shelf.old script.now) (S.read_faults shelf.old) (S.read_faults shelf.new)) }
+    ensures means { IfOk result
+        (ScriptHeldMeans recorded script.now S.tells (S.held shelf.old script.now)
+        (S.read_faults shelf.old) (S.read_faults shelf.new)) }
     ensures held { SameAtEach (S.held shelf.old) (S.held shelf.new) }
     ensures reads { RisesOnlyAt script.now (S.read_faults shelf.old) (S.read_faults shelf.new) }
     ensures writes { SameAtEach (S.write_faults shelf.old) (S.write_faults shelf.new) }
@@ -118,9 +121,12 @@ pub fn serial_means<S: Shelf>(
     script: &str,
     shelf: &mut S,
 ) -> Result<Meant, AllocError>
-    ensures means { IfOk result (IsMeant file.now script.now S.tells (S.held shelf.old) (S.read_faults shelf.old) (S.read_faults shelf.new)) }
+    ensures means { IfOk result
+        (IsMeant file.now script.now S.tells (S.held shelf.old) (S.read_faults shelf.old)
+        (S.read_faults shelf.new)) }
     ensures held { SameAtEach (S.held shelf.old) (S.held shelf.new) }
-    ensures reads { RisesOnlyAtTwo file.now script.now (S.read_faults shelf.old) (S.read_faults shelf.new) }
+    ensures reads { RisesOnlyAtTwo file.now script.now (S.read_faults shelf.old)
+        (S.read_faults shelf.new) }
     ensures writes { SameAtEach (S.write_faults shelf.old) (S.write_faults shelf.new) }
 {
     match plan_held(alloc, file, shelf)? {

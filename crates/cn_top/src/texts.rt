@@ -76,7 +76,9 @@ fn put_facing(
     a: (DeviceId, Asn),
     b: (DeviceId, Asn),
 ) -> Result<(), AllocError>
-    ensures { OnOk result (text.new.items ≡ text.old.items ++ refusal_text net.now (Facing side island a.0 a.1 b.0 b.1)) }
+    ensures { OnOk result
+        (text.new.items
+        ≡ text.old.items ++ refusal_text net.now (Facing side island a.0 a.1 b.0 b.1)) }
 {
     text.extend_from_slice(b"facing ")?;
     text.extend_from_slice(side_word(side))?;
@@ -113,7 +115,9 @@ fn put_origins(
     inside: DeviceId,
     elsewhere: DeviceId,
 ) -> Result<(), AllocError>
-    ensures { OnOk result (text.new.items ≡ text.old.items ++ refusal_text net.now (Origins shared.0 shared.1 inside elsewhere)) }
+    ensures { OnOk result
+        (text.new.items
+        ≡ text.old.items ++ refusal_text net.now (Origins shared.0 shared.1 inside elsewhere)) }
 {
     text.extend_from_slice(b"origins ")?;
     put_shared(alloc, text, net, shared.0, &shared.1)?;
@@ -165,7 +169,8 @@ fn put_held(
     net: &Net,
     held: Option<&Choice>,
 ) -> Result<(), AllocError>
-    ensures { OnOk result (text.new.items ≡ text.old.items ++ held_text net.now (option_copied held.entry)) }
+    ensures { OnOk result
+        (text.new.items ≡ text.old.items ++ held_text net.now (option_copied held.entry)) }
 {
     match held {
         None => text.extend_from_slice(b"none"),
@@ -182,7 +187,9 @@ pub fn unsound_line(
     held: Option<&Choice>,
     wanted: Option<&Choice>,
 ) -> Result<Vec<u8>, AllocError>
-    ensures { IfOk result (λ text. text.items ≡ refused_line net.now (of_record device prefix.now (option_copied held.entry) (option_copied wanted.entry))) }
+    ensures { IfOk result (λ text. text.items
+        ≡ refused_line net.now
+        (of_record device prefix.now (option_copied held.entry) (option_copied wanted.entry))) }
 {
     let mut text = Vec::from_slice(alloc, b"refused record ")?;
     put_name(&mut text, net, device)?;
@@ -206,7 +213,9 @@ fn put_device(text: &mut Vec<u8>, net: &Net, device: DeviceId) -> Result<(), All
 
 /// Appends names, each after a space.
 fn put_names(text: &mut Vec<u8>, net: &Net, devices: &[DeviceId]) -> Result<(), AllocError>
-    ensures { OnOk result (text.new.items ≡ text.old.items ++ flat_map (λ d. codes " " ++ name_of net.now d) devices.now) }
+    ensures { OnOk result
+        (text.new.items
+        ≡ text.old.items ++ flat_map (λ d. codes " " ++ name_of net.now d) devices.now) }
 {
     for device in devices {
         text.extend_from_slice(b" ")?;
@@ -250,7 +259,8 @@ fn put_counts(
 
 /// The lines of the emulated devices.
 fn put_devices(text: &mut Vec<u8>, net: &Net, devices: &[DeviceId]) -> Result<(), AllocError>
-    ensures { OnOk result (text.new.items ≡ text.old.items ++ flat_map (emulate_line net.now) devices.now) }
+    ensures { OnOk result
+        (text.new.items ≡ text.old.items ++ flat_map (emulate_line net.now) devices.now) }
 {
     for device in devices {
         put_device(text, net, *device)?;
@@ -265,7 +275,8 @@ fn put_islands(
     certified: &Certified,
     islands: &[DeviceId],
 ) -> Result<(), AllocError>
-    ensures { OnOk result (text.new.items ≡ text.old.items ++ flat_map (island_line certified.now) islands.now) }
+    ensures { OnOk result
+        (text.new.items ≡ text.old.items ++ flat_map (island_line certified.now) islands.now) }
 {
     for island in islands {
         put_island(alloc, text, certified, *island)?;

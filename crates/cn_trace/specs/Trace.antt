@@ -1,22 +1,19 @@
 -- The trace of a history. Every line ends with one line feed.
-use Rattle.std.specs.Prelude.{ℕ, codes, List, [], ◌∷◌, ◌++◌, flat_map}
+use Rattle.std.specs.Prelude.{ℕ, codes, List, ◌++◌, flat_map}
 use Rattle.std.specs.Fmt.{decimal}
 use Rattle.cn_net.specs.Network.{Network, name_of}
 use Rattle.cn_core.specs.declared.event.Event.{Event}
 use Rattle.cn_core.specs.declared.event.Event.TheVariants.{Receive, Decide, Send}
 use Rattle.cn_core.specs.declared.event.Step.{Step}
 use Rattle.cn_core.specs.declared.event.Step.TheVariants.{Work, Mark}
-use Rattle.cn_report.specs.Standing.{paired}
-use Rattle.cn_text.specs.Printed.{prefix_text}
-
-abbrev pub newline : List ℕ
-newline = 10 ∷ []
+use Rattle.cn_text.specs.Printed.{newline, pair_text, prefix_text}
 
 -- what happened: a message received, a decision made, or a message sent
 abbrev pub event_text : Network → Event → List ℕ
-event_text net (Receive from to) = codes "receive " ++ paired net from to
-event_text net (Decide device prefix) = codes "decide " ++ name_of net device ++ codes " " ++ prefix_text prefix
-event_text net (Send from to) = codes "send " ++ paired net from to
+event_text net (Receive from to) = codes "receive " ++ pair_text (name_of net from) (name_of net to)
+event_text net (Decide device prefix) =
+    codes "decide " ++ name_of net device ++ codes " " ++ prefix_text prefix
+event_text net (Send from to) = codes "send " ++ pair_text (name_of net from) (name_of net to)
 
 -- an event, or the mark behind a command
 abbrev pub step_text : Network → Step → List ℕ

@@ -1,13 +1,24 @@
 //! The lines of a trace, which are put at the end of one text.
 
 ghost use Rattle.std.specs.Prelude.{◌≡◌, ◌++◌, IfOk, OnOk};
+ghost use Rattle.cn_net.specs.Network.{name_of};
 ghost use Rattle.cn_trace.specs.Trace.{event_text, step_line, step_text, trace_text};
 
+use cn_base::DeviceId;
 use cn_core::{Event, Step};
 use cn_net::Net;
-use cn_report::{put_name, put_pair};
-use cn_text::{put_number, put_prefix};
+use cn_text::{put_number, put_pair, put_prefix};
 use std::alloc::{AllocError, Global};
+
+/// The name of a device, and nothing where there is no such device.
+fn name_of(net: &Net, d: DeviceId) -> &str
+    ensures { result.now ≡ name_of net.now d }
+{
+    match net.device(d) {
+        Some(device) => device.name.text(),
+        None => "",
+    }
+}
 
 /// What happened, without a line end.
 fn put_event(alloc: Global, text: &mut Vec<u8>, net: &Net, event: &Event) -> Result<(), AllocError>
@@ -16,17 +27,17 @@ fn put_event(alloc: Global, text: &mut Vec<u8>, net: &Net, event: &Event) -> Res
     match event {
         Event::Receive { from, to } => {
             text.extend_from_slice(b"receive ")?;
-            put_pair(text, net, *from, *to)
+            put_pair(text, name_of(net, *from), name_of(net, *to))
         }
         Event::Decide { device, prefix } => {
             text.extend_from_slice(b"decide ")?;
-            put_name(text, net, *device)?;
+            text.extend_from_slice(name_of(net, *device).as_bytes())?;
             text.extend_from_slice(b" ")?;
             put_prefix(alloc, text, prefix)
         }
         Event::Send { from, to } => {
             text.extend_from_slice(b"send ")?;
-            put_pair(text, net, *from, *to)
+            put_pair(text, name_of(net, *from), name_of(net, *to))
         }
     }
 }

@@ -11,7 +11,9 @@ use Rattle.cn_wire.specs.Reading.{Gives, update_of, fault_in, fault_of}
 use Rattle.cn_wire.proofs.MessagesFound.{update_found}
 use Rattle.cn_wire.proofs.Again.{update_again}
 
-pub found_of : (octets : List ℕ) (r : Result Update WireAnswer) → IsOctets octets → Gives (λ x. x) r (update_of octets) → IfOk r (λ u. Spells octets u)
+-- what is read is spelled by the octets
+pub found_of : (octets : List ℕ) (r : Result Update WireAnswer) → IsOctets octets
+    → Gives (λ x. x) r (update_of octets) → IfOk r (λ u. Spells octets u)
 found_of octets (Ok u) fits e = update_found octets u fits e
 found_of octets (Err e) fits h = tt
 
@@ -21,15 +23,20 @@ failed e = Err e
 same_answer : (e d : WireAnswer) → failed e ≡ failed d → e ≡ d
 same_answer e d h = cc
 
-fault_of_answer : (octets : List ℕ) (f g : WireFault) → answers.Fault g ≡ answers.Fault f → update_of octets ≡ Err g → fault_of octets ≡ Some f
-fault_of_answer octets f g h e = ap fault_in e ∙ ap (λ (x : WireFault). Some x) (same_fault f g h) where
-  same_fault : (f g : WireFault) → answers.Fault g ≡ answers.Fault f → g ≡ f
-  same_fault f g h = cc
+fault_of_answer : (octets : List ℕ) (f g : WireFault) → answers.Fault g ≡ answers.Fault f
+    → update_of octets ≡ Err g → fault_of octets ≡ Some f
+fault_of_answer octets f g h e = ap fault_in e ∙ ap (λ (x : WireFault). Some x)
+    (same_fault f g h) where
+      same_fault : (f g : WireFault) → answers.Fault g ≡ answers.Fault f → g ≡ f
+      same_fault f g h = cc
 
-pub fault_is : (octets : List ℕ) (r : Result Update WireAnswer) (f : WireFault) → r ≡ Err (answers.Fault f) → Gives (λ x. x) r (update_of octets) → fault_of octets ≡ Some f
+-- a fault that is told is the first fault of the octets
+pub fault_is : (octets : List ℕ) (r : Result Update WireAnswer) (f : WireFault)
+    → r ≡ Err (answers.Fault f) → Gives (λ x. x) r (update_of octets) → fault_of octets ≡ Some f
 fault_is octets (Ok u) f e h = absurd cc
 fault_is octets (Err answers.Memory) f e h = absurd cc
-fault_is octets (Err (answers.Fault g)) f e h = fault_of_answer octets f g (same_answer (answers.Fault g) (answers.Fault f) e) h
+fault_is octets (Err (answers.Fault g)) f e h =
+    fault_of_answer octets f g (same_answer (answers.Fault g) (answers.Fault f) e) h
 
 read_of : (r : Result Update WireFault) → IsNone (fault_in r) → (u : Update) × (r ≡ Ok u)
 read_of (Ok u) none = (u, refl)
@@ -38,5 +45,11 @@ read_of (Err f) none = absurd cc
 abbrev read_ok : Update → Result Update WireFault
 read_ok u = Ok u
 
-pub no_fault : (octets : List ℕ) → IsOctets octets → IsNone (fault_of octets) ↔ ((u : Update) × Spells octets u)
-no_fault octets fits = (λ none. let x = read_of (update_of octets) none in (x.0, update_found octets x.0 fits x.1), λ (u, s). subst (λ (r : Result Update WireFault). IsNone (fault_in r)) (sym (update_again octets u s)) refl)
+-- octets without a fault are those that spell an update
+pub no_fault : (octets : List ℕ) → IsOctets octets
+    → IsNone (fault_of octets) ↔ ((u : Update) × Spells octets u)
+no_fault octets fits = (
+  λ none. let x = read_of (update_of octets) none in (x.0, update_found octets x.0 fits x.1),
+  λ (u, s). subst (λ (r : Result Update WireFault). IsNone (fault_in r))
+      (sym (update_again octets u s)) refl,
+)

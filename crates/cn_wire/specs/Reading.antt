@@ -1,6 +1,8 @@
--- Reading from left to right, and the first fault that is met (RFC 4271, 6.1 and 6.3). Octets without a fault
--- are those that Spells of specs/Spelling.antt relates to an update: the laws of `one_spelling` say so.
+-- Reading from left to right, and the first fault that is met (RFC 4271, 6.1 and 6.3). Octets
+-- without a fault are those that Spells of specs/Spelling.antt relates to an update: the laws of
+-- `one_spelling` say so.
 use Rattle.std.specs.Prelude.{◌≡◌, ℕ, zero, suc, ◌+◌, ◌-◌, ◌*◌, ◌/◌, ◌%◌, ◌==◌, ◌||◌, Bool, not, is_some, List, [], ◌∷◌, length, take, drop, slice_index, position, Option, Some, None, Result, Ok, Err, nat_lt, if◌then◌else◌}
+use Rattle.cn_lists.specs.Steps.{◌>>=◌}
 use Rattle.cn_base.specs.Cidr.{Cidr}
 use Rattle.cn_base.specs.declared.ids.Asn.{Asn}
 use Rattle.cn_base.specs.declared.ids.Origin.{Origin}
@@ -14,11 +16,6 @@ use Rattle.cn_wire.specs.declared.attributes.Found.{Found}
 use Rattle.cn_wire.specs.declared.update.Attrs.{Attrs}
 use Rattle.cn_wire.specs.declared.update.Update.{Update}
 use Rattle.cn_wire.specs.Numbers.{number_2, number_4, octets_for, cidr_of}
-
-infixl 10 ◌>>=◌
-abbrev pub ◌>>=◌ : {A B : Type 0} → Result A WireFault → (A → Result B WireFault) → Result B WireFault
-(Ok x) >>= f = f x
-(Err e) >>= f = Err e
 
 -- What a function returned, seen by view, is what reading gives, or memory ran out.
 abbrev pub Fails : {Y : Type 0} → WireAnswer → Result Y WireFault → Type 0
@@ -67,17 +64,25 @@ is_known kind = (kind == 1 || kind == 2) || kind == 3
 
 -- an attribute of this type came before
 abbrev pub has : Found → ℕ → Bool
-has found kind = if kind == 1 then is_some found.origin else (if kind == 2 then is_some found.path else is_some found.next_hop)
+has found kind =
+    if kind == 1 then is_some found.origin
+    else (if kind == 2 then is_some found.path else is_some found.next_hop)
 
 -- the type, the value, and the octets after it. The faults are looked for in this order.
 unfoldable pub head_at : ℕ → Found → List ℕ → Result (ℕ × List ℕ × List ℕ) WireFault
 head_at at found octets = do
   sizes ← sizes_at at octets
   if not (is_known (slice_index octets 1)) then Err (Attr at (slice_index octets 1) causes.Kind)
-      else (if has found (slice_index octets 1) then Err (Attr at (slice_index octets 1) causes.Repeated)
-      else (if not (slice_index octets 0 / 32 == 2) then Err (Attr at (slice_index octets 1) causes.Flags)
+      else
+      (if has found (slice_index octets 1) then Err (Attr at (slice_index octets 1) causes.Repeated)
+      else (if not (slice_index octets 0 / 32 == 2)
+      then Err (Attr at (slice_index octets 1) causes.Flags)
       else (if nat_lt (length octets) (sizes.0 + sizes.1) then Err (Bounds at)
-      else Ok (slice_index octets 1, take sizes.1 (drop sizes.0 octets), drop sizes.1 (drop sizes.0 octets)))))
+      else Ok (
+        slice_index octets 1,
+        take sizes.1 (drop sizes.0 octets),
+        drop sizes.1 (drop sizes.0 octets),
+      ))))
 
 -- ORIGIN (RFC 4271, 5.1.1)
 unfoldable pub origin_at : ℕ → List ℕ → Result Origin WireFault
@@ -97,23 +102,32 @@ numbers_in (suc n) octets = record { 0 = number_4 octets } ∷ numbers_in n (dro
 unfoldable pub counted_at : ℕ → List ℕ → Result (List Asn) WireFault
 counted_at at [] = Err (Attr at 2 causes.Size)
 counted_at at (zero ∷ octets) = Err (Attr at 2 causes.Size)
-counted_at at (suc n ∷ octets) = if not (length octets == 4 * suc n) then Err (Attr at 2 causes.Size) else Ok (numbers_in (suc n) octets)
+counted_at at (suc n ∷ octets) =
+    if not (length octets == 4 * suc n) then Err (Attr at 2 causes.Size)
+    else Ok (numbers_in (suc n) octets)
 
 -- AS_PATH: nothing, or one AS_SEQUENCE (RFC 4271, 5.1.2)
 unfoldable pub path_at : ℕ → List ℕ → Result (List Asn) WireFault
 path_at at [] = Ok []
-path_at at (segment ∷ octets) = if not (segment == 2) then Err (Attr at 2 causes.Segment) else counted_at at octets
+path_at at (segment ∷ octets) =
+    if not (segment == 2) then Err (Attr at 2 causes.Segment) else counted_at at octets
 
 -- NEXT_HOP (RFC 4271, 5.1.3)
 unfoldable pub next_hop_at : ℕ → List ℕ → Result ℕ WireFault
-next_hop_at at octets = if not (length octets == 4) then Err (Attr at 3 causes.Size) else Ok (number_4 octets)
+next_hop_at at octets =
+    if not (length octets == 4) then Err (Attr at 3 causes.Size) else Ok (number_4 octets)
 
 -- what was found, with the value of this type
 unfoldable pub add_at : ℕ → Found → ℕ → List ℕ → Result Found WireFault
 add_at at found kind value =
-    if kind == 1 then (origin_at at value >>= λ o. Ok (record { origin = Some o; path = found.path; next_hop = found.next_hop }))
-    else (if kind == 2 then (path_at at value >>= λ p. Ok (record { origin = found.origin; path = Some p; next_hop = found.next_hop }))
-    else (next_hop_at at value >>= λ h. Ok (record { origin = found.origin; path = found.path; next_hop = Some h })))
+    if kind == 1
+    then (origin_at at value
+    >>= λ o. Ok (record { origin = Some o; path = found.path; next_hop = found.next_hop }))
+    else (if kind == 2
+    then (path_at at value
+    >>= λ p. Ok (record { origin = found.origin; path = Some p; next_hop = found.next_hop }))
+    else (next_hop_at at value
+    >>= λ h. Ok (record { origin = found.origin; path = found.path; next_hop = Some h })))
 
 -- what was found with the first attribute, and the octets after it
 unfoldable pub attribute_at : ℕ → Found → List ℕ → Result (Found × List ℕ) WireFault
@@ -155,7 +169,8 @@ attrs_of size announced found =
 abbrev pub marker_fault : List ℕ → Option ℕ
 marker_fault octets = position (λ b. not (b == 255)) (take 16 octets)
 
--- The length and the type that the header gives are those of an UPDATE of so many octets. The faults are looked for in this order.
+-- The length and the type that the header gives are those of an UPDATE of so many octets. The
+-- faults are looked for in this order.
 unfoldable pub sized_as : ℕ → ℕ → ℕ → Result (Unit {0}) WireFault
 sized_as have size kind =
     if nat_lt size 19 then Err (Length size)
@@ -174,22 +189,27 @@ marked None read = read
 unfoldable pub framed : List ℕ → Result (Unit {0}) WireFault
 framed octets =
     if nat_lt (length octets) 19 then Err (Short (length octets) 19)
-    else marked (marker_fault octets) (sized_as (length octets) (number_2 (drop 16 octets)) (slice_index octets 18))
+    else marked (marker_fault octets)
+    (sized_as (length octets) (number_2 (drop 16 octets)) (slice_index octets 18))
 
--- a part with its length of two octets in front, and the octets after it, of which there are at least spare
+-- a part with its length of two octets in front, and the octets after it, of which there are at
+-- least spare
 unfoldable pub field_at : ℕ → ℕ → List ℕ → Result (List ℕ × List ℕ) WireFault
 field_at at spare octets =
     if nat_lt (length octets) (2 + number_2 octets + spare) then Err (Bounds at)
     else Ok (take (number_2 octets) (drop 2 octets), drop (number_2 octets) (drop 2 octets))
 
--- What comes after the header: the withdrawn prefixes, of which two octets more than they take must be left, the attributes, and to the end the announced prefixes.
+-- What comes after the header: the withdrawn prefixes, of which two octets more than they take must
+-- be left, the attributes, and to the end the announced prefixes.
 unfoldable pub body_at : List ℕ → Result Update WireFault
 body_at octets = do
   withdrawn ← field_at 19 2 octets
   withdrawals ← prefixes_at (length withdrawn.0) (21 + length withdrawn.0) withdrawn.0
   attributes ← field_at (21 + length withdrawn.0) 0 withdrawn.1
-  found ← attributes_at (length attributes.0) (23 + length withdrawn.0 + length attributes.0) nothing attributes.0
-  nlri ← prefixes_at (length attributes.1) (23 + length withdrawn.0 + length attributes.0 + length attributes.1) attributes.1
+  found ← attributes_at (length attributes.0) (23 + length withdrawn.0 + length attributes.0)
+      nothing attributes.0
+  nlri ← prefixes_at (length attributes.1)
+      (23 + length withdrawn.0 + length attributes.0 + length attributes.1) attributes.1
   attrs ← attrs_of (length attributes.0) (length nlri) found
   Ok (record { withdrawn = withdrawals; attrs = attrs; announced = nlri })
 

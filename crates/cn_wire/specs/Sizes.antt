@@ -6,9 +6,13 @@ use Rattle.cn_wire.specs.Writing.{spelled_prefix}
 -- what is left of the room, where it holds the prefixes
 abbrev pub room_after : ℕ → List Cidr → Option ℕ
 room_after room [] = Some room
-room_after room (p ∷ ps) = if nat_le (length (spelled_prefix p)) room then room_after (room - length (spelled_prefix p)) ps else None
+room_after room (p ∷ ps) =
+    if nat_le (length (spelled_prefix p)) room then room_after (room - length (spelled_prefix p)) ps
+    else None
 
 -- as many of the first prefixes as the room holds; the first that it doesn't hold ends them
 abbrev pub fitting : ℕ → List Cidr → List Cidr
 fitting room [] = []
-fitting room (p ∷ ps) = if nat_le (length (spelled_prefix p)) room then p ∷ fitting (room - length (spelled_prefix p)) ps else []
+fitting room (p ∷ ps) =
+    if nat_le (length (spelled_prefix p)) room
+    then p ∷ fitting (room - length (spelled_prefix p)) ps else []

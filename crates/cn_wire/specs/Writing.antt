@@ -14,17 +14,23 @@ spelled_prefix p = p.len ∷ take (octets_for p.len) (four_octets p.bits)
 abbrev pub spelled_prefixes : List Cidr → List ℕ
 spelled_prefixes ps = flat_map spelled_prefix ps
 
--- flags 40 hexadecimal and a length of one octet, or flags 50 and a length of two where one octet doesn't hold it
+-- flags 40 hexadecimal and a length of one octet, or flags 50 and a length of two where one octet
+-- doesn't hold it
 abbrev pub spelled_attribute : Attribute → List ℕ
-spelled_attribute a = if nat_le (length a.value) 255 then 64 ∷ a.kind ∷ length a.value ∷ a.value else 80 ∷ a.kind ∷ (two_octets (length a.value) ++ a.value)
+spelled_attribute a =
+    if nat_le (length a.value) 255 then 64 ∷ a.kind ∷ length a.value ∷ a.value
+    else 80 ∷ a.kind ∷ (two_octets (length a.value) ++ a.value)
 
 -- ORIGIN, AS_PATH, NEXT_HOP
 abbrev pub spelled_attrs : Option Attrs → List ℕ
 spelled_attrs None = []
-spelled_attrs (Some a) = spelled_attribute (origin_attribute a) ++ (spelled_attribute (as_path_attribute a) ++ spelled_attribute (next_hop_attribute a))
+spelled_attrs (Some a) =
+    spelled_attribute (origin_attribute a)
+    ++ (spelled_attribute (as_path_attribute a) ++ spelled_attribute (next_hop_attribute a))
 
 abbrev pub spelling : Update → List ℕ
-spelling u = message (spelled_prefixes u.withdrawn) (spelled_attrs u.attrs) (spelled_prefixes u.announced)
+spelling u =
+    message (spelled_prefixes u.withdrawn) (spelled_attrs u.attrs) (spelled_prefixes u.announced)
 
 -- the message has at most 4,096 octets (RFC 4271, 4.1), and announces nothing without attributes
 abbrev pub fits : Update → Bool

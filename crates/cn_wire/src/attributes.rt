@@ -1,5 +1,5 @@
-//! Reads path attributes (RFC 4271, 4.3 and 5). A reader takes the part of the message in which it reads,
-//! and the place at which that part or the attribute stands.
+//! Reads path attributes (RFC 4271, 4.3 and 5). A reader takes the part of the message in which it
+//! reads, and the place at which that part or the attribute stands.
 
 ghost use Rattle.std.specs.Prelude.{◌≡◌, ◌<◌, ◌≤◌, ◌+◌, ◌*◌, length, IfOk};
 ghost use Rattle.cn_wire.specs.Numbers.{number_2, number_4};

@@ -12,7 +12,8 @@ pub enum AttrCause {
     Kind,
     /// An attribute of this type came before.
     Repeated,
-    /// The highest three flags aren't those of a well-known attribute: not optional, transitive, complete.
+    /// The highest three flags aren't those of a well-known attribute: not optional, transitive,
+    /// complete.
     Flags,
     /// The value has a wrong number of octets.
     Size,
@@ -22,8 +23,8 @@ pub enum AttrCause {
     Value,
 }
 
-/// The first fault of octets that are no message. A place, `at`, is counted in octets from the message's
-/// first, which is at 0; `have` and `want` count octets.
+/// The first fault of octets that are no message. A place, `at`, is counted in octets from the
+/// message's first, which is at 0; `have` and `want` count octets.
 #[derive(Clone, Copy, Debug, PartialEq, Eq)]
 pub enum WireFault {
     /// There are `have` octets, where the header needs 19 or the message has the length `want`.
@@ -62,8 +63,8 @@ pub enum WireFault {
         at: usize,
         value: u16,
     },
-    /// No attribute of this type is there, which is the least that is missing: 1 is ORIGIN, 2 AS_PATH and
-    /// 3 NEXT_HOP.
+    /// No attribute of this type is there, which is the least that is missing: 1 is ORIGIN, 2
+    /// AS_PATH and 3 NEXT_HOP.
     Missing {
         kind: u8,
     },

@@ -69,7 +69,8 @@ fn framed(bytes: &[u8]) -> Result<(), WireAnswer>
     }
 }
 
-// A part with its length in front, and what comes after it, of which there are at least `spare` octets.
+// A part with its length in front, and what comes after it, of which there are at least `spare`
+// octets.
 #[tactic(auto, unfolding(crate::specs::Reading::field_at))]
 fn field_of(at: usize, spare: usize, bytes: &[u8]) -> Result<(&[u8], &[u8]), WireAnswer>
     requires { spare ≤ 2 }
@@ -115,16 +116,18 @@ fn read(alloc: Global, bytes: &[u8]) -> Result<Update, WireAnswer>
     body_of(alloc, &bytes[19..])
 }
 
-/// The update that the octets spell. `Fault` comes exactly where they spell none, with the first fault:
-/// of the header from the left, then of the withdrawn prefixes, of the path attributes and of the
-/// announced prefixes, each from the left, and at last a missing attribute (RFC 4271, 6.1 and 6.3).
+/// The update that the octets spell. `Fault` comes exactly where they spell none, with the first
+/// fault: of the header from the left, then of the withdrawn prefixes, of the path attributes and
+/// of the announced prefixes, each from the left, and at last a missing attribute (RFC 4271, 6.1
+/// and 6.3).
 pub fn decode(alloc: Global, bytes: &[u8]) -> Result<Update, WireAnswer>
     // What is read is spelled so.
     ensures found { IfOk result (λ u. Spells bytes.now u) }
     // What is spelled is read, unless memory runs out.
     ensures only { (u : Update) → Spells bytes.now u → Gives (λ x. x) result (Ok u) }
     // A fault is the octets' first.
-    ensures fault { (f : WireFault) → result ≡ Err (WireAnswer.Fault f) → fault_of bytes.now ≡ Some f }
+    ensures fault { (f : WireFault) → result ≡ Err (WireAnswer.Fault f)
+        → fault_of bytes.now ≡ Some f }
     // Both in one: what the definition of reading gives.
     ensures exact { Gives (λ x. x) result (update_of bytes.now) }
 {

@@ -1,5 +1,5 @@
-//! Reads prefixes (RFC 4271, 4.3). A reader takes the part of the message in which it reads, and the place
-//! at which that part ends; what it has left tells how far it came.
+//! Reads prefixes (RFC 4271, 4.3). A reader takes the part of the message in which it reads, and
+//! the place at which that part ends; what it has left tells how far it came.
 
 ghost use Rattle.std.specs.Prelude.{◌≡◌, ◌<◌, ◌≤◌, ◌+◌, ◌-◌, ◌*◌, ◌/◌, length, slice_index, IfOk, take, drop};
 ghost use Rattle.cn_wire.specs.Numbers.{octets_for, masked};

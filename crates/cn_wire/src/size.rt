@@ -1,4 +1,5 @@
-//! How many octets the parts of a message take (RFC 4271, 4.1 and 4.3), and which updates have a message.
+//! How many octets the parts of a message take (RFC 4271, 4.1 and 4.3), and which updates have a
+//! message.
 
 ghost use Rattle.std.specs.Prelude.{◌≡◌, ◌≤◌, nat_le, length, Some};
 ghost use Rattle.cn_wire.specs.Sizes.{room_after};
@@ -8,7 +9,8 @@ ghost use Rattle.cn_wire.specs.Writing.{fits, spelling, spelled_prefix, spelled_
 use crate::update::{Attrs, Update};
 use cn_base::{AsPath, Prefix};
 
-// What a message may have beside the marker, its length and type, and the lengths of its first two parts.
+// What a message may have beside the marker, its length and type, and the lengths of its first two
+// parts.
 const ROOM: usize = 4096 - 23;
 
 /// How many octets a prefix takes.
@@ -49,7 +51,8 @@ fn path_size(path: &AsPath) -> usize
     6 + 4 * numbers.len()
 }
 
-/// How many octets attributes take: at most 1,037, so that a message has room for a prefix beside them.
+/// How many octets attributes take: at most 1,037, so that a message has room for a prefix beside
+/// them.
 pub fn attrs_size(attrs: &Attrs) -> usize
     ensures size { result ≡ length (spelled_attrs (Some attrs.now)) }
     ensures small { result ≤ 1037 }

@@ -262,8 +262,8 @@ fn unused_bits(rt: HostRuntime) -> Result<(), Fail> {
     Ok(())
 }
 
-// How many numbers a path has, and how many octets its announcement with a prefix of length 32: from 64
-// numbers on, the length of the path takes two octets.
+// How many numbers a path has, and how many octets its announcement with a prefix of length 32:
+// from 64 numbers on, the length of the path takes two octets.
 #[test]
 fn long_paths(rt: HostRuntime) -> Result<(), Fail> {
     let alloc = rt.alloc();
@@ -278,8 +278,8 @@ fn long_paths(rt: HostRuntime) -> Result<(), Fail> {
     Ok(())
 }
 
-// How many prefixes of four octets are withdrawn, the length of one more, and whether there is a message:
-// 1,018 prefixes of four octets leave room for one octet.
+// How many prefixes of four octets are withdrawn, the length of one more, and whether there is a
+// message: 1,018 prefixes of four octets leave room for one octet.
 #[test]
 fn full_messages(rt: HostRuntime) -> Result<(), Fail> {
     let alloc = rt.alloc();

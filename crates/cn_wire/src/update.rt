@@ -14,8 +14,8 @@ pub struct Attrs {
     pub next_hop: u32,
 }
 
-/// What a message says: the prefixes that are withdrawn, and those that are announced with the one set of
-/// attributes. Each list may repeat a prefix.
+/// What a message says: the prefixes that are withdrawn, and those that are announced with the one
+/// set of attributes. Each list may repeat a prefix.
 #[derive(Debug, Drop)]
 pub struct Update {
     pub withdrawn: Items<Prefix>,

@@ -1,6 +1,6 @@
 //! Writes UPDATE messages (RFC 4271, 4.1 and 4.3).
 
-ghost use Rattle.std.specs.Prelude.{◌≡◌, ◌≤◌, ◌<◌, ◌+◌, ◌^◌, ◌++◌, true, length, IfOk, IfSome, OnOk, Some, ◌∷◌, []};
+ghost use Rattle.std.specs.Prelude.{◌≡◌, ◌≤◌, ◌<◌, ◌+◌, ◌^◌, ◌++◌, true, length, IfOk, OnOk, Some, ◌∷◌, []};
 ghost use Rattle.std.specs.List.{flat_map};
 ghost use Rattle.cn_base.specs.Rank.{origin_code};
 ghost use Rattle.cn_wire.specs.Numbers.{two_octets, four_octets};
@@ -29,18 +29,10 @@ fn put_four(out: &mut Vec<u8>, n: u32) -> Result<(), AllocError>
     out.extend_from_slice(&octets)
 }
 
-// The prefix again, with what its type keeps: at most 32 bits count, and those after them are zero. None
-// never comes, since each `Prefix` is so; the contracts of its calls don't say that to other crates.
-fn sound(prefix: &Prefix) -> Option<Prefix>
-    ensures { IfSome result (λ p. (p ≡ prefix.now) × IsPrefix prefix.now) }
-{
-    Prefix::new(prefix.bits(), prefix.len())
-}
-
 fn put_prefix(out: &mut Vec<u8>, prefix: &Prefix) -> Result<(), AllocError>
-    ensures { OnOk result ((out.new.items ≡ out.old.items ++ spelled_prefix prefix.now) × IsPrefix prefix.now) }
+    ensures { OnOk result
+        ((out.new.items ≡ out.old.items ++ spelled_prefix prefix.now) × IsPrefix prefix.now) }
 {
-    let prefix = sound(prefix).ok_or(AllocError)?;
     let mut octets = [0u8; 4];
     BigEndian::write_u32(&mut octets, prefix.bits());
     out.push(prefix.len())?;
@@ -48,7 +40,9 @@ fn put_prefix(out: &mut Vec<u8>, prefix: &Prefix) -> Result<(), AllocError>
 }
 
 fn put_prefixes(out: &mut Vec<u8>, prefixes: &[Prefix]) -> Result<(), AllocError>
-    ensures { OnOk result ((out.new.items ≡ out.old.items ++ spelled_prefixes prefixes.now) × ArePrefixes prefixes.now) }
+    ensures { OnOk result
+        ((out.new.items ≡ out.old.items ++ spelled_prefixes prefixes.now)
+        × ArePrefixes prefixes.now) }
 {
     for prefix in prefixes {
         put_prefix(out, prefix)?;
@@ -64,7 +58,9 @@ fn put_number(out: &mut Vec<u8>, number: Asn) -> Result<(), AllocError>
 }
 
 fn put_numbers(out: &mut Vec<u8>, numbers: &[Asn]) -> Result<(), AllocError>
-    ensures { OnOk result ((out.new.items ≡ out.old.items ++ flat_map (λ m. four_octets m.0) numbers.now) × FitFourOctets numbers.now) }
+    ensures { OnOk result
+        ((out.new.items ≡ out.old.items ++ flat_map (λ m. four_octets m.0) numbers.now)
+        × FitFourOctets numbers.now) }
 {
     for number in numbers {
         put_number(out, *number)?;
@@ -74,7 +70,8 @@ fn put_numbers(out: &mut Vec<u8>, numbers: &[Asn]) -> Result<(), AllocError>
 
 // The octets of a path: none, or the segment's type, the count and the numbers.
 fn path_octets(alloc: Global, path: &AsPath) -> Result<Vec<u8>, AllocError>
-    ensures { IfOk result (λ v. (v.items ≡ as_path_value path.now) × (FitFourOctets path.now × (length path.now ≤ 255))) }
+    ensures { IfOk result (λ v.
+        (v.items ≡ as_path_value path.now) × (FitFourOctets path.now × (length path.now ≤ 255))) }
 {
     let mut value = Vec::new(alloc);
     let numbers = path.items();
@@ -90,7 +87,9 @@ fn path_octets(alloc: Global, path: &AsPath) -> Result<Vec<u8>, AllocError>
 // An attribute, with a length of two octets only where one octet does not hold it.
 fn put_attribute(out: &mut Vec<u8>, kind: u8, value: &[u8]) -> Result<(), AllocError>
     requires { length value.now < 65536 }
-    ensures { OnOk result (out.new.items ≡ out.old.items ++ spelled_attribute (record { kind = kind; value = value.now })) }
+    ensures { OnOk result
+        (out.new.items
+        ≡ out.old.items ++ spelled_attribute (record { kind = kind; value = value.now })) }
 {
     if value.len() <= 255 {
         out.extend_from_slice(&[0x40, kind, value.len() as u8])?;
@@ -114,7 +113,9 @@ fn origin_octet(origin: Origin) -> u8
 }
 
 fn put_next_hop(out: &mut Vec<u8>, next_hop: u32) -> Result<(), AllocError>
-    ensures ok { OnOk result (out.new.items ≡ out.old.items ++ spelled_attribute (record { kind = 3; value = four_octets next_hop })) }
+    ensures ok { OnOk result
+        (out.new.items
+        ≡ out.old.items ++ spelled_attribute (record { kind = 3; value = four_octets next_hop })) }
     ensures short { next_hop < 2 ^ 32 }
 {
     let mut octets = [0u8; 4];
@@ -123,7 +124,9 @@ fn put_next_hop(out: &mut Vec<u8>, next_hop: u32) -> Result<(), AllocError>
 }
 
 fn put_attributes(alloc: Global, out: &mut Vec<u8>, attrs: &Attrs) -> Result<(), AllocError>
-    ensures { OnOk result ((out.new.items ≡ out.old.items ++ spelled_attrs (Some attrs.now)) × IsAttrs (Some attrs.now)) }
+    ensures { OnOk result
+        ((out.new.items ≡ out.old.items ++ spelled_attrs (Some attrs.now))
+        × IsAttrs (Some attrs.now)) }
 {
     let path = path_octets(alloc, &attrs.path)?;
     put_attribute(out, ORIGIN, &[origin_octet(attrs.origin)])?;
@@ -133,7 +136,8 @@ fn put_attributes(alloc: Global, out: &mut Vec<u8>, attrs: &Attrs) -> Result<(),
 }
 
 fn put_attrs(alloc: Global, out: &mut Vec<u8>, attrs: &Option<Attrs>) -> Result<(), AllocError>
-    ensures { OnOk result ((out.new.items ≡ out.old.items ++ spelled_attrs attrs.now) × IsAttrs attrs.now) }
+    ensures { OnOk result
+        ((out.new.items ≡ out.old.items ++ spelled_attrs attrs.now) × IsAttrs attrs.now) }
 {
     match attrs {
         None => Ok(()),
@@ -148,7 +152,8 @@ fn put_message(
     nlri: &[u8],
 ) -> Result<(), AllocError>
     requires { 23 + length withdrawals.now + length attributes.now + length nlri.now ≤ 4096 }
-    ensures { OnOk result (out.new.items ≡ out.old.items ++ message withdrawals.now attributes.now nlri.now) }
+    ensures { OnOk result
+        (out.new.items ≡ out.old.items ++ message withdrawals.now attributes.now nlri.now) }
 {
     out.extend_from_slice(&[255; 16])?;
     put_two(
@@ -164,8 +169,8 @@ fn put_message(
     Ok(())
 }
 
-/// The one message that is written for an update. Prefixes stand in the order of the update's lists, with
-/// zeros after their bits, and attributes in the order ORIGIN, AS_PATH, NEXT_HOP.
+/// The one message that is written for an update. Prefixes stand in the order of the update's
+/// lists, with zeros after their bits, and attributes in the order ORIGIN, AS_PATH, NEXT_HOP.
 pub fn encode(alloc: Global, update: &Update) -> Result<Vec<u8>, AllocError>
     requires { fits update.now ≡ true }
     ensures { IfOk result (λ v. (v.items ≡ spelling update.now) × Spells v.items update.now) }

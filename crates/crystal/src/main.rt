@@ -1,7 +1,7 @@
 //! The program: the host's files and standard output below the calls of `cn_top`.
 //!
-//! It hands the arguments to `command` and ends with the number of the status. The contract that says
-//! what it does is that of `command`; here stands only what no contract speaks of.
+//! It hands the arguments to `command` and ends with the number of the status. The contract that
+//! says what it does is that of `command`; here stands only what no contract speaks of.
 #![tactic(auto)]
 
 use cn_outside::{HostOut, HostShelf};

@@ -1,12 +1,11 @@
-use Rattle.std.proofs.Common.{◌∙◌, ap}
+use Rattle.std.proofs.lemmas.Result.{IfOk-weaker}
 use Rattle.cn_net.specs.Islands.{label_of, outside_of}
-use Rattle.cn_cert.specs.Earlier.{earlier_of}
-use Rattle.cn_cert.proofs.Orders.{first_of_all}
+use Rattle.cn_cert.proofs.Classes.{found_by_name}
 use Rattle.cn_cert.proofs.first.first_refusal.Goals as goal
 
 pub returns : goal.returns
 returns c =
-    let outside = outside_of c.args.emulated.now in
-    first_of_all c.args.net.now outside (label_of c.args.labels.now) c.in_ok-emulated_side.emulated_side c.in_ok-outside_side.outside_side c.in_ok-origins.origins
-    c.in_ok-emulated_side.ensures c.in_ok-outside_side.ensures (c.in_ok-origins.ensures outside)
-    c.earlier_of-2.result (c.earlier_of-2.ensures ∙ ap (λ x. earlier_of x c.in_ok-origins.origins) c.earlier_of.ensures)
+    IfOk-weaker c.first_named.result _ _
+    (found_by_name c.args.net.now (outside_of c.args.emulated.now) (label_of c.in_ok-names.names)
+    (label_of c.args.labels.now) c.in_ok-names.ensures.same c.in_ok-names.ensures.least)
+    c.first_named.ensures

@@ -8,10 +8,14 @@ use Rattle.cn_core.proofs.owed.announced.Goals as goal
 
 pub returns-in-Some : goal.returns-in-Some
 returns-in-Some c =
-    ap (λ (o : Option Route). option_map (Announce c.args.prefix.now) (option_map attributes_of o)) (sym c.in-Some.is ∙ c.in_ok-offer.ensures)
-    ∙ ap (option_map (Announce c.args.prefix.now)) (sym (offered_some c.args.net.now c.args.from c.args.to c.args.prefix.now c.args.choice.now))
+    ap (λ (o : Option Route). option_map (Announce c.args.prefix.now) (option_map attributes_of o))
+    (sym c.in-Some.is ∙ c.in_ok-offer.ensures)
+    ∙ ap (option_map (Announce c.args.prefix.now))
+    (sym (offered_some c.args.net.now c.args.from c.args.to c.args.prefix.now c.args.choice.now))
 
 pub returns-in-None : goal.returns-in-None
 returns-in-None c =
-    ap (λ (o : Option Route). option_map (Announce c.args.prefix.now) (option_map attributes_of o)) (sym c.in-None.is ∙ c.in_ok-offer.ensures)
-    ∙ ap (option_map (Announce c.args.prefix.now)) (sym (offered_some c.args.net.now c.args.from c.args.to c.args.prefix.now c.args.choice.now))
+    ap (λ (o : Option Route). option_map (Announce c.args.prefix.now) (option_map attributes_of o))
+    (sym c.in-None.is ∙ c.in_ok-offer.ensures)
+    ∙ ap (option_map (Announce c.args.prefix.now))
+    (sym (offered_some c.args.net.now c.args.from c.args.to c.args.prefix.now c.args.choice.now))

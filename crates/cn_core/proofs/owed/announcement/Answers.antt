@@ -11,5 +11,9 @@ pub returns : goal.returns
 returns c =
     let x = c.args.session.now in
     ap (option_map pair_of) c.first_announced.ensures
-    ∙ find_mapped (λ e. is_news (fin.get x.sent e.0) (offered c.args.net.now x.from x.to e.0 (Some e.1))) pair_of c.rows.result.now
-    ∙ ap (find (λ e. is_news (fin.get x.sent e.0) (offered c.args.net.now x.from x.to e.0 (Some e.1)))) c.rows.ensures
+    ∙ find_mapped
+    (λ e. is_news (fin.get x.sent e.0) (offered c.args.net.now x.from x.to e.0 (Some e.1))) pair_of
+    c.rows.result.now
+    ∙ ap
+    (find (λ e. is_news (fin.get x.sent e.0) (offered c.args.net.now x.from x.to e.0 (Some e.1))))
+    c.rows.ensures

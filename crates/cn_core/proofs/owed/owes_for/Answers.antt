@@ -11,4 +11,6 @@ returns-in-None c =
     let a = c.args.session.now.from in
     let b = c.args.session.now.to in
     let p = c.args.prefix.now in
-    absurd (true≢false (sym (ap is_none (ap (offered net a b p) (sym c.in-None.ensures) ∙ nothing_offered net a b p)) ∙ sym c.is_withdrawn.ensures ∙ c.if-is_withdrawn.false))
+    absurd (true≢false
+    (sym (ap is_none (ap (offered net a b p) (sym c.in-None.ensures) ∙ nothing_offered net a b p))
+    ∙ sym c.is_withdrawn.ensures ∙ c.if-is_withdrawn.false))

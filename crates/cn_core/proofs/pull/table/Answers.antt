@@ -8,14 +8,20 @@ use Rattle.cn_core.proofs.pull.table.Goals as goal
 pub make-requires : goal.make-requires
 make-requires c =
     let items = c.rows-row-items.result.now in
-    let rows = c.loop-row.invariant ∙ ap (map table_row) (take_all c.loop-row.row-index items c.loop-row-test.false) in
+    let rows =
+    c.loop-row.invariant
+    ∙ ap (map table_row) (take_all c.loop-row.row-index items c.loop-row-test.false) in
     subst AscendsByPrefix (sym rows) (table_ascends c.args.best.now items c.rows-row-items.ensures)
 
 pub returns : goal.returns
 returns c =
     let items = c.rows-row-items.result.now in
-    let rows = c.loop-row.invariant ∙ ap (map table_row) (take_all c.loop-row.row-index items c.loop-row-test.false) in
+    let rows =
+    c.loop-row.invariant
+    ∙ ap (map table_row) (take_all c.loop-row.row-index items c.loop-row-test.false) in
     let made = c.make.ensures ∙ rows in (
-      subst AscendsByPrefix (sym made) (table_ascends c.args.best.now items c.rows-row-items.ensures),
-      λ p. ap (λ t. choice_for t p) made ∙ table_exact c.args.best.now items c.rows-row-items.ensures p,
+      subst AscendsByPrefix (sym made)
+          (table_ascends c.args.best.now items c.rows-row-items.ensures),
+      λ p. ap (λ t. choice_for t p) made
+          ∙ table_exact c.args.best.now items c.rows-row-items.ensures p,
     )

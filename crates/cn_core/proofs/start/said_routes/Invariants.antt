@@ -6,4 +6,7 @@ use Rattle.cn_core.proofs.start.said_routes.Given as goal
 
 abbrev pub invariant-loop-row : goal.invariant-loop-row
 invariant-loop-row l =
-    fold (λ best x. with_choice best x.prefix (said_by l.recorded.opening l.recorded.rows l.device x.prefix)) l.routes (drop l.row-index l.row-items) ≡ said_routes l.recorded l.device
+    fold (λ best x.
+    with_choice best x.prefix (said_by l.recorded.opening l.recorded.rows l.device x.prefix))
+    l.routes (drop l.row-index l.row-items)
+    ≡ said_routes l.recorded l.device

@@ -6,4 +6,8 @@ use Rattle.cn_core.proofs.Numbers.{ids}
 use Rattle.cn_core.proofs.start.sessions.Given as goal
 
 abbrev pub invariant-loop-from : goal.invariant-loop-from
-invariant-loop-from l = l.sessions.items ++ flat_map (λ a. map (empty_session a) (receivers l.certified a)) (ids l.from (l.from-end - l.from)) ≡ first_sessions l.certified
+invariant-loop-from l =
+    l.sessions.items
+    ++ flat_map (λ a. map (empty_session a) (receivers l.certified a))
+    (ids l.from (l.from-end - l.from))
+    ≡ first_sessions l.certified

@@ -9,5 +9,6 @@ abbrev pub invariant-loop-draft : goal.invariant-loop-draft
 invariant-loop-draft l = record {
   made : l.joined.items ≡ map (link_made (names_of l.devices)) (take l.draft-index l.links);
   ends : l.before.keys ≡ map ends_between l.joined.items;
-  first : first_in (link_fault l.devices) l.links ≡ first_from (link_fault l.devices) (take l.draft-index l.links) (drop l.draft-index l.links);
+  first : first_in (link_fault l.devices) l.links
+      ≡ first_from (link_fault l.devices) (take l.draft-index l.links) (drop l.draft-index l.links);
 }

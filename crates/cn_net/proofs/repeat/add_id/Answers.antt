@@ -8,5 +8,7 @@ use Rattle.cn_net.proofs.repeat.add_id.Goals as goal
 
 pub returns-clause-first : goal.returns-clause-first
 returns-clause-first c =
-    let fresh : list_any (same_router c.args.id) c.args.ids.now.keys ≡ false = grind (arith, common_steps, c.in_ok-earlier.ensures.added) in
-    ap (option_map (λ a. DuplicateId (record { 0 = a }) c.args.device)) (no_place (same_router c.args.id) c.args.ids.now.keys fresh)
+    let fresh : list_any (same_router c.args.id) c.args.ids.now.keys ≡ false =
+    grind (arith, common_steps, c.in_ok-earlier.ensures.added) in
+    ap (option_map (λ a. DuplicateId (record { 0 = a }) c.args.device))
+    (no_place (same_router c.args.id) c.args.ids.now.keys fresh)

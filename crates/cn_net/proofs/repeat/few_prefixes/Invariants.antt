@@ -4,4 +4,6 @@ use Rattle.cn_base.specs.Cidr.{Cidr, same_prefix}
 use Rattle.cn_net.proofs.repeat.few_prefixes.Given as goal
 
 abbrev pub invariant-loop-device : goal.invariant-loop-device
-invariant-loop-device l = (q : Cidr) → list_any (same_prefix q) l.prefixes.keys ≡ list_any (same_prefix q) (flat_map (λ d. map (λ o. o.prefix) d.body.own) (take l.device-index l.devices))
+invariant-loop-device l =
+    let before = flat_map (λ d. map (λ o. o.prefix) d.body.own) (take l.device-index l.devices) in
+    (q : Cidr) → list_any (same_prefix q) l.prefixes.keys ≡ list_any (same_prefix q) before

@@ -3,4 +3,6 @@ use Rattle.cn_serial.proofs.Runs.{IsRunSoFar}
 use Rattle.cn_serial.proofs.serial.run_serial.Given as goal
 
 abbrev pub invariant-loop-command : goal.invariant-loop-command
-invariant-loop-command l = IsRunSoFar l.fn.recorded l.command-items l.command-index l.core l.answers.items × (l.k ≡ l.command-index + 1)
+invariant-loop-command l =
+    IsRunSoFar l.fn.recorded l.command-items l.command-index l.core l.answers.items
+    × (l.k ≡ l.command-index + 1)

@@ -7,4 +7,5 @@ use Rattle.cn_serial.proofs.serial.work.Given as goal
 abbrev pub invariant-loop-done : goal.invariant-loop-done
 invariant-loop-done l =
     (l.core.recorded ≡ l.fn.core.recorded)
-    × (l.core.history ++ map Work (first_events (now l.core) (l.count - l.done)) ≡ l.fn.core.history ++ map Work (first_events (now l.fn.core) l.count))
+    × (l.core.history ++ map Work (first_events (now l.core) (l.count - l.done))
+    ≡ l.fn.core.history ++ map Work (first_events (now l.fn.core) l.count))

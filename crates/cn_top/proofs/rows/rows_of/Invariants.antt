@@ -6,4 +6,6 @@ use Rattle.cn_top.specs.Faults.{first_unknown, row_names}
 use Rattle.cn_top.proofs.rows.rows_of.Given as goal
 
 abbrev pub invariant-loop-draft : goal.invariant-loop-draft
-invariant-loop-draft l = ReadAs l.net (take l.draft-index l.drafts) l.rows.items × (first_unknown (draft_of l.net) (flat_map row_names (take l.draft-index l.drafts)) ≡ None)
+invariant-loop-draft l =
+    ReadAs l.net (take l.draft-index l.drafts) l.rows.items
+    × (first_unknown (draft_of l.net) (flat_map row_names (take l.draft-index l.drafts)) ≡ None)

@@ -5,4 +5,6 @@ use Rattle.cn_top.proofs.Selections.{Found}
 use Rattle.cn_top.proofs.selection.devices_of.Given as goal
 
 abbrev pub invariant-loop-name : goal.invariant-loop-name
-invariant-loop-name l = Found l.net l.names l.devices.items l.name-index × (first_unknown (draft_of l.net) (take l.name-index l.names) ≡ None)
+invariant-loop-name l =
+    Found l.net l.names l.devices.items l.name-index
+    × (first_unknown (draft_of l.net) (take l.name-index l.names) ≡ None)

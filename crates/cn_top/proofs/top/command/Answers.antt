@@ -6,9 +6,12 @@ use Rattle.cn_top.proofs.top.command.Goals as goal
 pub returns : goal.returns
 returns g c =
     let e = c.run.ensures in
-    let h = outcomes g.S.Shelf.tells (g.S.Shelf.held c.args.shelf.now) (g.S.Shelf.held c.run.new.shelf)
-    (g.S.Shelf.read_faults c.args.shelf.now) (g.S.Shelf.read_faults c.run.new.shelf) (g.S.Shelf.write_faults c.args.shelf.now) (g.S.Shelf.write_faults c.run.new.shelf)
-    g.O.Out.tells (g.O.Out.taken c.args.out.now) (g.O.Out.taken c.run.new.out) (g.O.Out.faults c.args.out.now) (g.O.Out.faults c.run.new.out) c.run.result
+    let h =
+    outcomes g.S.Shelf.tells (g.S.Shelf.held c.args.shelf.now) (g.S.Shelf.held c.run.new.shelf)
+    (g.S.Shelf.read_faults c.args.shelf.now) (g.S.Shelf.read_faults c.run.new.shelf)
+    (g.S.Shelf.write_faults c.args.shelf.now) (g.S.Shelf.write_faults c.run.new.shelf)
+    g.O.Out.tells (g.O.Out.taken c.args.out.now) (g.O.Out.taken c.run.new.out)
+    (g.O.Out.faults c.args.out.now) (g.O.Out.faults c.run.new.out) c.run.result
     (form_of (map string_bytes c.args.words.now)) e.answers in
     record {
       answers = e.answers;

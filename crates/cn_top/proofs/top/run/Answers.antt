@@ -15,9 +15,17 @@ returns-in-Ok-Line-clause-answers g c =
     let faults = g.O.Out.faults c.args.out.now in
     let faults' = g.O.Out.faults c.end-in-Ok-Line.new.out in
     let answer = c.in-Ok-Line.answer in
-    let means = subst (IsMeant c.in-Serial.file.now c.in-Serial.script.now g.S.Shelf.tells held reads reads') c.in-Ok-Line.field-0-is c.in-Ok-Line.ensures.means in
-    let ends = subst (λ text. Ends g.O.Out.tells before after faults faults' (record { status = answer.status; text = text }) c.end-in-Ok-Line.result) c.items.ensures c.end-in-Ok-Line.ensures.ends in
-    subst (λ (f : Form). Outcome f g.S.Shelf.tells held (g.S.Shelf.held c.serial_means.new.shelf) reads reads' (g.S.Shelf.write_faults c.args.shelf.now) (g.S.Shelf.write_faults c.serial_means.new.shelf) g.O.Out.tells before after faults faults' c.end-in-Ok-Line.result)
+    let means =
+    subst (IsMeant c.in-Serial.file.now c.in-Serial.script.now g.S.Shelf.tells held reads reads')
+    c.in-Ok-Line.field-0-is c.in-Ok-Line.ensures.means in
+    let ends =
+    subst (λ text. Ends g.O.Out.tells before after faults faults'
+    (record { status = answer.status; text = text }) c.end-in-Ok-Line.result) c.items.ensures
+    c.end-in-Ok-Line.ensures.ends in
+    subst (λ (f : Form). Outcome f g.S.Shelf.tells held (g.S.Shelf.held c.serial_means.new.shelf)
+    reads reads' (g.S.Shelf.write_faults c.args.shelf.now)
+    (g.S.Shelf.write_faults c.serial_means.new.shelf) g.O.Out.tells before after faults faults'
+    c.end-in-Ok-Line.result)
     c.in-Serial.ensures (inl (inr (answer, means, ends), c.serial_means.ensures.held))
 
 pub returns-in-Ok-Run-clause-answers : goal.returns-in-Ok-Run-clause-answers
@@ -27,8 +35,15 @@ returns-in-Ok-Run-clause-answers g c =
     let held = g.S.Shelf.held c.args.shelf.now in
     let reads = g.S.Shelf.read_faults c.args.shelf.now in
     let reads' = g.S.Shelf.read_faults c.serial_means.new.shelf in
-    let means = subst (IsMeant file script g.S.Shelf.tells held reads reads') c.in-Ok-Run.field-0-is c.in-Ok-Run.ensures.means in
-    run_ends file script c.in-Serial.trace.now g.S.Shelf.tells held (g.S.Shelf.held c.serial_means.new.shelf) (g.S.Shelf.held c.end_run.new.shelf) reads (g.S.Shelf.read_faults c.end_run.new.shelf)
-    (g.S.Shelf.write_faults c.args.shelf.now) (g.S.Shelf.write_faults c.serial_means.new.shelf) (g.S.Shelf.write_faults c.end_run.new.shelf) g.O.Out.tells
-    (g.O.Out.taken c.args.out.now) (g.O.Out.taken c.end_run.new.out) (g.O.Out.faults c.args.out.now) (g.O.Out.faults c.end_run.new.out) c.end_run.result
-    (form_of (map string_bytes c.args.words.now)) c.in-Ok-Run.run' c.in-Serial.ensures means c.serial_means.ensures.held c.serial_means.ensures.writes c.end_run.ensures.ends
+    let means =
+    subst (IsMeant file script g.S.Shelf.tells held reads reads') c.in-Ok-Run.field-0-is
+    c.in-Ok-Run.ensures.means in
+    run_ends file script c.in-Serial.trace.now g.S.Shelf.tells held
+    (g.S.Shelf.held c.serial_means.new.shelf) (g.S.Shelf.held c.end_run.new.shelf) reads
+    (g.S.Shelf.read_faults c.end_run.new.shelf)
+    (g.S.Shelf.write_faults c.args.shelf.now) (g.S.Shelf.write_faults c.serial_means.new.shelf)
+    (g.S.Shelf.write_faults c.end_run.new.shelf) g.O.Out.tells
+    (g.O.Out.taken c.args.out.now) (g.O.Out.taken c.end_run.new.out) (g.O.Out.faults c.args.out.now)
+    (g.O.Out.faults c.end_run.new.out) c.end_run.result
+    (form_of (map string_bytes c.args.words.now)) c.in-Ok-Run.run' c.in-Serial.ensures means
+    c.serial_means.ensures.held c.serial_means.ensures.writes c.end_run.ensures.ends

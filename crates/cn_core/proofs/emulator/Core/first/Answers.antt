@@ -8,11 +8,21 @@ use Rattle.cn_core.proofs.Logged.{kept_of, whole_at}
 use Rattle.cn_core.proofs.emulator.Core.first.Goals as goal
 
 pub first-requires : goal.first-requires
-first-requires c = record { whole = whole_at c.self.inside.recorded.value c.self.inside.history.items c.self.inside.engine c.self.invariant.0; owing = subst (IsOwing c.self.inside.engine) (sym c.deref.ensures.value) c.self.invariant.2 }
+first-requires c = record {
+  whole =
+      whole_at c.self.inside.recorded.value c.self.inside.history.items c.self.inside.engine
+      c.self.invariant.0;
+  owing = subst (IsOwing c.self.inside.engine) (sym c.deref.ensures.value) c.self.invariant.2;
+}
 
 pub returns-clause-event : goal.returns-clause-event
-returns-clause-event c = c.first.ensures ∙ ap first_event c.self.invariant.0.tables ∙ ap (λ (l : Log). first_event (state l.recorded l.history)) c.self.view_is
+returns-clause-event c =
+    c.first.ensures ∙ ap first_event c.self.invariant.0.tables
+    ∙ ap (λ (l : Log). first_event (state l.recorded l.history)) c.self.view_is
 
 pub returns-clause-kept : goal.returns-clause-kept
 returns-clause-kept c =
-    subst (λ (l : Log). IsKept l.recorded (state l.recorded l.history)) c.self.view_is (subst (IsKept c.self.inside.recorded.value) c.self.invariant.0.tables (kept_of c.self.inside.recorded.value c.self.inside.history.items c.self.inside.engine c.self.invariant.0))
+    subst (λ (l : Log). IsKept l.recorded (state l.recorded l.history)) c.self.view_is
+    (subst (IsKept c.self.inside.recorded.value) c.self.invariant.0.tables
+    (kept_of c.self.inside.recorded.value c.self.inside.history.items c.self.inside.engine
+    c.self.invariant.0))

@@ -8,4 +8,6 @@ use Rattle.cn_core.proofs.emulator.Core.net.Goals as goal
 pub returns-clause-kept : goal.returns-clause-kept
 returns-clause-kept c =
     subst (λ (l : Log). IsKept l.recorded (state l.recorded l.history)) c.self.view_is
-    (subst (IsKept c.self.inside.recorded.value) c.self.invariant.0.tables (kept_of c.self.inside.recorded.value c.self.inside.history.items c.self.inside.engine c.self.invariant.0))
+    (subst (IsKept c.self.inside.recorded.value) c.self.invariant.0.tables
+    (kept_of c.self.inside.recorded.value c.self.inside.history.items c.self.inside.engine
+    c.self.invariant.0))

@@ -7,16 +7,28 @@ use Rattle.cn_core.proofs.Pulls.{pulled_again, pulled_quiet}
 use Rattle.cn_core.proofs.emulator.Core.pull.Goals as goal
 
 pub tables-requires-clause-whole : goal.tables-requires-clause-whole
-tables-requires-clause-whole c = whole_at c.self.inside.recorded.value c.self.inside.history.items c.self.inside.engine c.self.invariant.0
+tables-requires-clause-whole c =
+    whole_at c.self.inside.recorded.value c.self.inside.history.items c.self.inside.engine
+    c.self.invariant.0
 
 pub tables-requires-clause-devices : goal.tables-requires-clause-devices
 tables-requires-clause-devices c =
-    let k = kept_of c.self.inside.recorded.value c.self.inside.history.items c.self.inside.engine c.self.invariant.0 in
-    subst (λ (n : Network). All (IsDevice n) c.self.inside.emulated) (sym k.net) (subst (λ (e : List DeviceId). All (IsDevice c.self.inside.recorded.value.opening.net) e) (sym c.self.invariant.1) c.self.invariant.0.recorded.opening.devices)
+    let k =
+    kept_of c.self.inside.recorded.value c.self.inside.history.items c.self.inside.engine
+    c.self.invariant.0 in
+    subst (λ (n : Network). All (IsDevice n) c.self.inside.emulated) (sym k.net)
+    (subst (λ (e : List DeviceId). All (IsDevice c.self.inside.recorded.value.opening.net) e)
+    (sym c.self.invariant.1) c.self.invariant.0.recorded.opening.devices)
 
 pub returns-in_ok-tables-in-Quiet : goal.returns-in_ok-tables-in-Quiet
 returns-in_ok-tables-in-Quiet c =
-    pulled_quiet c.self.inside.recorded.value c.self.inside.history.items c.self.inside.engine c.args.self.now c.self.invariant.0 c.self.view_is c.self.inside.emulated c.in_ok-tables-in-Quiet.field-0 c.self.invariant.1 (sym c.in-Quiet.is ∙ c.standing.ensures) c.in_ok-tables-in-Quiet.ensures
+    pulled_quiet c.self.inside.recorded.value c.self.inside.history.items c.self.inside.engine
+    c.args.self.now c.self.invariant.0 c.self.view_is c.self.inside.emulated
+    c.in_ok-tables-in-Quiet.field-0 c.self.invariant.1 (sym c.in-Quiet.is ∙ c.standing.ensures)
+    c.in_ok-tables-in-Quiet.ensures
 
 pub returns-in_default : goal.returns-in_default
-returns-in_default c = pulled_again c.self.inside.recorded.value c.self.inside.history.items c.self.inside.engine c.args.self.now c.self.invariant.0 c.self.view_is c.standing.result c.standing.ensures c.in_default.not-Quiet
+returns-in_default c =
+    pulled_again c.self.inside.recorded.value c.self.inside.history.items c.self.inside.engine
+    c.args.self.now c.self.invariant.0 c.self.view_is c.standing.result c.standing.ensures
+    c.in_default.not-Quiet

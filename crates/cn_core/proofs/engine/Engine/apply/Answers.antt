@@ -5,4 +5,6 @@ use Rattle.cn_core.proofs.Kept.{dirty_in_range}
 use Rattle.cn_core.proofs.engine.Engine.apply.Goals as goal
 
 pub decide-requires-clause-inside : goal.decide-requires-clause-inside
-decide-requires-clause-inside c = dirty_in_range c.args.self.now c.in-Decide.device c.in-Decide.prefix (subst (λ e. IsTrue (can c.args.self.now e)) c.in-Decide.is c.requires.can)
+decide-requires-clause-inside c =
+    dirty_in_range c.args.self.now c.in-Decide.device c.in-Decide.prefix
+    (subst (λ e. IsTrue (can c.args.self.now e)) c.in-Decide.is c.requires.can)

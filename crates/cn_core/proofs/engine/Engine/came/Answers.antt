@@ -7,4 +7,7 @@ use Rattle.cn_core.proofs.engine.Engine.came.Goals as goal
 
 pub returns-in-None : goal.returns-in-None
 unfolding session
-returns-in-None c = sym (get_empty c.args.prefix.now) ∙ ap (λ o. fin.get (unwrap_or o (empty_session c.args.from c.args.to)).came c.args.prefix.now) c.in-None.ensures
+returns-in-None c =
+    sym (get_empty c.args.prefix.now)
+    ∙ ap (λ o. fin.get (unwrap_or o (empty_session c.args.from c.args.to)).came c.args.prefix.now)
+    c.in-None.ensures

@@ -11,20 +11,31 @@ use Rattle.cn_core.proofs.engine.Engine.decided.Goals as goal
 pub returns-in-Some : goal.returns-in-Some
 returns-in-Some c =
     let s = c.args.self.now in
-    let net = ap (λ (t : CoreState). own_origin t.net c.args.device c.args.prefix.now) c.self.view_is in
-    ap (λ (q : List Asn). Some (record { from = None; path = q; origin = c.in-Some.origin })) c.empty.ensures
-    ∙ own_decided s.net (came_at s c.args.device c.args.prefix.now) c.args.device c.args.prefix.now c.in-Some.origin (c.in-Some.ensures ∙ net)
+    let net =
+    ap (λ (t : CoreState). own_origin t.net c.args.device c.args.prefix.now) c.self.view_is in
+    ap (λ (q : List Asn). Some (record { from = None; path = q; origin = c.in-Some.origin }))
+    c.empty.ensures
+    ∙ own_decided s.net (came_at s c.args.device c.args.prefix.now) c.args.device c.args.prefix.now
+    c.in-Some.origin (c.in-Some.ensures ∙ net)
 
 pub returns-in_ok-copy-in-Some-learnt : goal.returns-in_ok-copy-in-Some-learnt
 returns-in_ok-copy-in-Some-learnt c =
     let s = c.args.self.now in
-    let net = ap (λ (t : CoreState). own_origin t.net c.args.device c.args.prefix.now) c.self.view_is in
-    let choice : List Asn → Option Choice = λ q. Some (record { from = Some c.in-Some-learnt.from; path = q; origin = c.in-Some-learnt.attributes.now.origin }) in
+    let net =
+    ap (λ (t : CoreState). own_origin t.net c.args.device c.args.prefix.now) c.self.view_is in
+    let choice : List Asn → Option Choice =
+    λ q. Some (record {
+      from = Some c.in-Some-learnt.from;
+      path = q;
+      origin = c.in-Some-learnt.attributes.now.origin;
+    }) in
     ap choice c.in_ok-copy-in-Some-learnt.ensures ∙ c.in-Some-learnt.ensures
     ∙ learnt_decided s c.requires.whole c.args.device c.args.prefix.now (c.in_default.ensures ∙ net)
 
 pub returns-in-None : goal.returns-in-None
 returns-in-None c =
     let s = c.args.self.now in
-    let net = ap (λ (t : CoreState). own_origin t.net c.args.device c.args.prefix.now) c.self.view_is in
-    c.in-None.ensures ∙ learnt_decided s c.requires.whole c.args.device c.args.prefix.now (c.in_default.ensures ∙ net)
+    let net =
+    ap (λ (t : CoreState). own_origin t.net c.args.device c.args.prefix.now) c.self.view_is in
+    c.in-None.ensures
+    ∙ learnt_decided s c.requires.whole c.args.device c.args.prefix.now (c.in_default.ensures ∙ net)

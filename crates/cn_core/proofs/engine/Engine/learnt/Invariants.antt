@@ -7,5 +7,9 @@ use Rattle.cn_core.proofs.engine.Engine.learnt.Given as goal
 
 abbrev pub invariant-loop-neighbour : goal.invariant-loop-neighbour
 invariant-loop-neighbour l =
-    fold (λ best a. better_of l.self.net best (usable l.self.net l.device a (came_at l.self l.device l.prefix a))) (learnt_choice l.best) (map (λ n. n.device) (drop l.neighbour-index l.neighbour-items))
-    ≡ fold (λ best a. better_of l.self.net best (usable l.self.net l.device a (came_at l.self l.device l.prefix a))) None (map (λ n. n.device) l.neighbour-items)
+    fold (λ best a.
+    better_of l.self.net best (usable l.self.net l.device a (came_at l.self l.device l.prefix a)))
+    (learnt_choice l.best) (map (λ n. n.device) (drop l.neighbour-index l.neighbour-items))
+    ≡ fold (λ best a.
+    better_of l.self.net best (usable l.self.net l.device a (came_at l.self l.device l.prefix a)))
+    None (map (λ n. n.device) l.neighbour-items)

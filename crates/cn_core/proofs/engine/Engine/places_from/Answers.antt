@@ -16,12 +16,26 @@ returns c =
     let s = c.partition_point-start.result in
     let e = c.partition_point-end.result in
     let front : List Session = take e xs in
-    let same : xs ≡ c.args.self.now.sessions = c.deref-2.ensures.value ∙ ap (λ (t : CoreState). t.sessions) c.self.view_is in
+    let same : xs ≡ c.args.self.now.sessions =
+    c.deref-2.ensures.value ∙ ap (λ (t : CoreState). t.sessions) c.self.view_is in
     let here : c.deref.result.now ≡ xs = c.deref.ensures.value ∙ sym c.deref-2.ensures.value in
-    let rise = senders_rise xs (subst (AllPairs (λ x y. by_ends x y ≡ Less)) (sym same) c.requires.whole.ascending) in
-    let bound : e ≤ length xs = subst (λ l. e ≤ length l) here c.partition_point-end.ensures.bound in
-    let parted = subst (λ l. IsPartitionedBy (λ n. leb n.from.0 d.0) l) (sym here) (IsPartitionedBy-leb (λ n. n.from.0) xs d.0 rise) in
-    let ends = subst (λ l. IsPartitionPoint (λ n. leb n.from.0 d.0 ≡ true) (λ n. leb n.from.0 d.0 ≡ false) l e) here
-    (IsPartitionPoint-from_clause (λ n. leb n.from.0 d.0) c.deref.result.now e c.partition_point-end.ensures.partitioned parted (λ a r q k. search rules)) in
-    let starts = IsPartitionPoint-from_clause (λ n. ltb n.from.0 d.0) front s c.partition_point-start.ensures.partitioned (IsPartitionedBy-ltb (λ n. n.from.0) front d.0 (IsNonDecreasingBy-take (λ n. n.from.0) e xs rise)) (λ a r q k. search rules) in
-    subst (λ l. ArePlacesOf d l s e) same (places_found d xs s e bound c.partition_point-start.ensures.bound ends starts)
+    let rise =
+    senders_rise xs
+    (subst (AllPairs (λ x y. by_ends x y ≡ Less)) (sym same) c.requires.whole.ascending) in
+    let bound : e ≤ length xs =
+    subst (λ l. e ≤ length l) here c.partition_point-end.ensures.bound in
+    let parted =
+    subst (λ l. IsPartitionedBy (λ n. leb n.from.0 d.0) l) (sym here)
+    (IsPartitionedBy-leb (λ n. n.from.0) xs d.0 rise) in
+    let ends =
+    subst (λ l. IsPartitionPoint (λ n. leb n.from.0 d.0 ≡ true) (λ n. leb n.from.0 d.0 ≡ false) l e)
+    here
+    (IsPartitionPoint-from_clause (λ n. leb n.from.0 d.0) c.deref.result.now e
+    c.partition_point-end.ensures.partitioned parted (λ a r q k. search rules)) in
+    let starts =
+    IsPartitionPoint-from_clause (λ n. ltb n.from.0 d.0) front s
+    c.partition_point-start.ensures.partitioned
+    (IsPartitionedBy-ltb (λ n. n.from.0) front d.0
+    (IsNonDecreasingBy-take (λ n. n.from.0) e xs rise)) (λ a r q k. search rules) in
+    subst (λ l. ArePlacesOf d l s e) same
+    (places_found d xs s e bound c.partition_point-start.ensures.bound ends starts)

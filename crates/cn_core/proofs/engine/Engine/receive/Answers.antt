@@ -6,15 +6,21 @@ use Rattle.cn_core.proofs.engine.Engine.receive.Goals as goal
 
 pub receive-requires : goal.receive-requires
 receive-requires c =
-    let at = read_session c.self.inside.net c.self.inside.sessions.items c.self.inside.ribs.items c.args.self.now c.self.view_is c.args.from c.args.to c.in-Some.at c.index_mut.result.now c.in-Some.ensures c.index_mut.ensures.value in
+    let at =
+    read_session c.self.inside.net c.self.inside.sessions.items c.self.inside.ribs.items
+    c.args.self.now c.self.view_is c.args.from c.args.to c.in-Some.at c.index_mut.result.now
+    c.in-Some.ensures c.index_mut.ensures.value in
     subst (λ (x : Session). 0 < length x.mail) at c.requires.mail
 
 pub returns-in-Some-clause-ok : goal.returns-in-Some-clause-ok
 returns-in-Some-clause-ok c =
     let s = c.args.self.now in
     both_ok c.receive.result
-    (λ x y. receive_whole c.self.inside.net c.self.inside.sessions.items c.self.inside.ribs.items s c.self.view_is c.args.from c.args.to c.in-Some.at c.index_mut.result.now c.receive.new.session c.index_mut-in-Some.result.now c.receive.new.rib c.in-Some.ensures c.index_mut.ensures.value
-    (place_within s c.args.from c.args.to c.in-Some.at c.requires.whole c.in-Some.ensures).1 c.index_mut-in-Some.ensures.value c.requires.mail x y)
+    (λ x y. receive_whole c.self.inside.net c.self.inside.sessions.items c.self.inside.ribs.items s
+    c.self.view_is c.args.from c.args.to c.in-Some.at c.index_mut.result.now c.receive.new.session
+    c.index_mut-in-Some.result.now c.receive.new.rib c.in-Some.ensures c.index_mut.ensures.value
+    (place_within s c.args.from c.args.to c.in-Some.at c.requires.whole c.in-Some.ensures).1
+    c.index_mut-in-Some.ensures.value c.requires.mail x y)
     c.receive.ensures.session c.receive.ensures.rib
 
 pub returns-in-None-clause-ok : goal.returns-in-None-clause-ok

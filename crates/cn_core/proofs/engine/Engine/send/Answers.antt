@@ -9,8 +9,12 @@ use Rattle.cn_core.proofs.engine.Engine.send.Goals as goal
 
 pub put_out-requires : goal.put_out-requires
 put_out-requires c =
-    let at = read_session c.self.inside.net c.self.inside.sessions.items c.self.inside.ribs.items c.args.self.now c.self.view_is c.args.from c.args.to c.in-Some.at c.index_mut.result.now c.in-Some.ensures c.index_mut.ensures.value in
-    subst (λ (x : Session). length x.mail < 64) at (room_to_send c.args.self.now c.args.from c.args.to c.requires.can)
+    let at =
+    read_session c.self.inside.net c.self.inside.sessions.items c.self.inside.ribs.items
+    c.args.self.now c.self.view_is c.args.from c.args.to c.in-Some.at c.index_mut.result.now
+    c.in-Some.ensures c.index_mut.ensures.value in
+    subst (λ (x : Session). length x.mail < 64) at
+    (room_to_send c.args.self.now c.args.from c.args.to c.requires.can)
 
 pub returns-in_ok-message-in-Some-clause-ok : goal.returns-in_ok-message-in-Some-clause-ok
 returns-in_ok-message-in-Some-clause-ok c =
@@ -18,12 +22,20 @@ returns-in_ok-message-in-Some-clause-ok c =
     let ss = c.self.inside.sessions.items in
     let rs = c.self.inside.ribs.items in
     let s = c.args.self.now in
-    let in' = (place_within s c.args.from c.args.to c.in-Some.at c.requires.whole c.in-Some.ensures).0 in
-    let owes = owed_read nn ss rs s c.self.view_is c.args.from c.args.to c.in-Some.at c.index-in-Some.result.now c.index.result.now c.in-Some.ensures c.index-in-Some.ensures in' c.index.ensures in
+    let in' =
+    (place_within s c.args.from c.args.to c.in-Some.at c.requires.whole c.in-Some.ensures).0 in
+    let owes =
+    owed_read nn ss rs s c.self.view_is c.args.from c.args.to c.in-Some.at
+    c.index-in-Some.result.now c.index.result.now c.in-Some.ensures c.index-in-Some.ensures in'
+    c.index.ensures in
     let message = c.in_ok-message-in-Some.ensures ∙ owes in
     on_ok_weaker c.put_out.result
-    (λ e. send_whole nn ss rs s c.self.view_is c.args.from c.args.to c.in-Some.at c.index_mut.result.now c.put_out.new.self (owed_by s (session s c.args.from c.args.to)) c.in-Some.ensures c.index_mut.ensures.value (e ∙ ap (λ o. put_out_if o c.index_mut.result.now) message))
+    (λ e. send_whole nn ss rs s c.self.view_is c.args.from c.args.to c.in-Some.at
+    c.index_mut.result.now c.put_out.new.self (owed_by s (session s c.args.from c.args.to))
+    c.in-Some.ensures c.index_mut.ensures.value
+    (e ∙ ap (λ o. put_out_if o c.index_mut.result.now) message))
     c.put_out.ensures.ok
 
 pub returns-in-None-clause-ok : goal.returns-in-None-clause-ok
-returns-in-None-clause-ok c = absurd (found_to_send c.args.self.now c.args.from c.args.to c.requires.can c.in-None.ensures)
+returns-in-None-clause-ok c =
+    absurd (found_to_send c.args.self.now c.args.from c.args.to c.requires.can c.in-None.ensures)

@@ -4,4 +4,5 @@ use Rattle.cn_core.specs.Tables.{AreTables}
 use Rattle.cn_core.proofs.engine.Engine.tables.Given as goal
 
 abbrev pub invariant-loop-device : goal.invariant-loop-device
-invariant-loop-device l = AreTables (take l.device-index l.device-items) (held_in l.self) l.tables.items
+invariant-loop-device l =
+    AreTables (take l.device-index l.device-items) (held_in l.self) l.tables.items

@@ -19,7 +19,7 @@ returns-in-Some c =
     let is : IsDevice o.net c.args.device = omega (arith, c.if-device-count.false, c.count.ensures, ap (λ n. length n.devices) c.net.ensures) in
     let labelled = c.in-Some.ensures ∙ ap (λ l. label_of l c.args.device) c.labels.ensures in
     let found = rw c.deref.ensures.value at c.island_of.ensures in
-    originated_by o.net label c.args.device c.args.prefix.now c.self.inside.prefixes.items c.in-Some.island c.island_of.result c.eq.result c.self.invariant.recorded.opening.certified.origins c.self.invariant.prefixes is labelled found c.eq.ensures
+    originated_by o.net label c.args.device c.args.prefix.now c.self.inside.prefixes.items c.in-Some.island c.island_of.result c.eq.result (λ i. (c.self.invariant.recorded.opening.certified.island i).origins) c.self.invariant.prefixes is labelled found c.eq.ensures
     ∙ ap (λ (r : RecordedOpening). island_originates r.opening.net (label_of r.opening.labels) c.args.device c.args.prefix.now) c.self.view_is
 
 pub returns-in-None : goal.returns-in-None

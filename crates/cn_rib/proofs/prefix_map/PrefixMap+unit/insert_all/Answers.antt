@@ -14,10 +14,16 @@ loop-row-preserved g c =
     let kept = c.loop-row.invariant in
     let row = c.row-item.result in
     record {
-      sorted = sorted_insert prefix_cmp_total prefix_cmp-IsAntisymmetric (λ r. r.prefix) (λ r. r.value) rows _ kept.sorted refl _ row.prefix tt c.in_ok-put.ensures.ok;
+      sorted =
+          sorted_insert prefix_cmp_total prefix_cmp-IsAntisymmetric (λ r. r.prefix) (λ r. r.value)
+          rows _ kept.sorted refl _ row.prefix tt c.in_ok-put.ensures.ok;
       made =
-          ap (λ m. set.insert_all m (map (λ r. r.prefix) (drop (c.loop-row.row-index + 1) more))) (insert_is prefix_cmp_total prefix_cmp-IsAntisymmetric (λ r. r.prefix) (λ r. r.value) rows _ kept.sorted refl _ row.prefix tt c.in_ok-put.ensures.ok)
-          ∙ insert_all-drop (λ r. r.prefix) _ more c.loop-row.row-index row c.loop-row-test.true c.row-item.is ∙ kept.made;
+          ap (λ m. set.insert_all m (map (λ r. r.prefix) (drop (c.loop-row.row-index + 1) more)))
+          (insert_is prefix_cmp_total prefix_cmp-IsAntisymmetric (λ r. r.prefix) (λ r. r.value) rows
+          _ kept.sorted refl _ row.prefix tt c.in_ok-put.ensures.ok)
+          ∙ insert_all-drop (λ r. r.prefix) _ more c.loop-row.row-index row c.loop-row-test.true
+          c.row-item.is
+          ∙ kept.made;
       room = omega (arith, c.in_ok-put.ensures.length, c.in_ok-put.ensures.capacity);
     }
 
@@ -25,6 +31,13 @@ pub returns-clause-ok : goal.returns-clause-ok
 returns-clause-ok g c =
     let more = c.rows-more.result.now in
     let past : length more ≤ c.loop-row.row-index = omega arith in
-    sym (ap (λ xs. set.insert_all (from_sorted (map (λ r. (r.prefix, r.value)) c.loop-row.self-inside.rows.items)) (map (λ r. r.prefix) xs)) (drop_all c.loop-row.row-index more past))
-    ∙ c.loop-row.invariant.made ∙ ap (λ rows. set.insert_all (from_sorted (map (λ r. (r.prefix, r.value)) rows)) (map (λ r. r.prefix) more)) c.in_ok-reserve.ensures.items
-    ∙ ap (λ m. set.insert_all m (map (λ r. r.prefix) more)) c.self.view_is ∙ ap (set.insert_all c.args.self.now) (keys_of_rows (λ r. r.prefix) (λ r. r.value) more c.args.other.now c.rows-more.ensures)
+    sym (ap (λ xs. set.insert_all
+    (from_sorted (map (λ r. (r.prefix, r.value)) c.loop-row.self-inside.rows.items))
+    (map (λ r. r.prefix) xs)) (drop_all c.loop-row.row-index more past))
+    ∙ c.loop-row.invariant.made
+    ∙ ap (λ rows.
+    set.insert_all (from_sorted (map (λ r. (r.prefix, r.value)) rows)) (map (λ r. r.prefix) more))
+    c.in_ok-reserve.ensures.items
+    ∙ ap (λ m. set.insert_all m (map (λ r. r.prefix) more)) c.self.view_is
+    ∙ ap (set.insert_all c.args.self.now)
+    (keys_of_rows (λ r. r.prefix) (λ r. r.value) more c.args.other.now c.rows-more.ensures)

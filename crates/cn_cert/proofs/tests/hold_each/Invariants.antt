@@ -1,7 +1,0 @@
-use Rattle.std.proofs.Common.{◌≡◌, ◌<◌, true}
-use Rattle.cn_base.specs.declared.ids.DeviceId.{DeviceId}
-use Rattle.cn_net.specs.Islands.{holds_device}
-use Rattle.cn_cert.proofs.tests.hold_each.Given as goal
-
-abbrev pub invariant-loop-number : goal.invariant-loop-number
-invariant-loop-number l = (d : DeviceId) → d.0 < l.number → holds_device l.set d ≡ true

@@ -1,0 +1,6 @@
+pub mod Finding
+pub mod Folding
+pub mod Halving
+pub mod Loops
+pub mod Order
+pub mod Segments
