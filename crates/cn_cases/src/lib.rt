@@ -1,14 +1,15 @@
-//! The cases: what the crates below answer of small networks, and one call of each of their public functions
-//! with ample memory.
+//! The cases: what the crates below answer of small networks, and one call of each of their public
+//! functions with ample memory.
 //!
-//! A crate that has tests is proved twice, once without them and once with them. So what is tested on a network
-//! is tested here, and a crate below keeps the tests of what is private. `build` makes networks from rows and
-//! knows alone what a draft is made of, `nets` has those that several cases share, `opening` emulates devices
-//! by their names and records rows, and `words` turns answers into text. The other modules have a table of named
-//! cases each, with the text that is expected; an assertion that fails prints the name of its case.
+//! A crate that has tests is proved twice, once without them and once with them. So what is tested
+//! on a network is tested here, and a crate below keeps the tests of what is private. `build` makes
+//! networks from rows and knows alone what a draft is made of, `nets` has those that several cases
+//! share, `opening` emulates devices by their names and records rows, and `words` turns answers
+//! into text. The other modules have a table of named cases each, with the text that is expected;
+//! an assertion that fails prints the name of its case.
 //!
-//! The expected texts come from the definitions, the RFCs and the program's other description, its acceptance
-//! cases; none is copied from an answer of the code.
+//! The expected texts come from the definitions, the RFCs and the program's other description, its
+//! acceptance cases; none is copied from an answer of the code.
 #![tactic(auto)]
 
 #[cfg(test)]

@@ -62,12 +62,14 @@ s1 10.1.2.0/24 from l1 path 65201 65102 origin igp
     (
         "another path",
         &[("s1", "10.1.2.0/24", "l1", "65201 65101", "igp")],
-        "s1 10.1.2.0/24: held from l1 path 65201 65101 origin igp wanted from l1 path 65201 65102 origin igp",
+        "s1 10.1.2.0/24: held from l1 path 65201 65101 origin igp \
+        wanted from l1 path 65201 65102 origin igp",
     ),
     (
         "a candidate that isn't the best",
         &[("s1", "10.1.1.0/24", "l2", "65201 65101", "igp")],
-        "s1 10.1.1.0/24: held from l2 path 65201 65101 origin igp wanted from l1 path 65201 65101 origin igp",
+        "s1 10.1.1.0/24: held from l2 path 65201 65101 origin igp \
+        wanted from l1 path 65201 65101 origin igp",
     ),
     (
         "another ORIGIN",

@@ -1,6 +1,6 @@
--- How the first refusal is found. These are words of the crate's private functions alone: what refusals
--- are stands in Refusal, and no layer above needs these.
--- Below, `name d` is the label of d's island where each island is labelled by its least device.
+-- How the first refusal is found. These are words of the crate's private functions alone: what
+-- refusals are stands in Refusal, and no layer above needs these. Below, `name d` is the label of
+-- d's island where each island is labelled by its least device.
 use Rattle.std.specs.Prelude.{◌≡◌, ◌≢◌, ℕ, ◌≤◌, ◌↔◌, ◌&&◌, ◌++◌, ◌==◌, nat_eq, nat_lt, Bool, false, not, List, Contains, Option, Some, None, option_map, option_to_list, if◌then◌else◌}
 use Rattle.std.specs.List.Sorted.{IsSorted}
 use Rattle.std.specs.Option.{option_eq}

@@ -18,10 +18,12 @@ IsPartOf xs ys = (d : DeviceId) → holds_device xs d ≡ true → holds_device 
 
 -- each device that is linked to a member and has a greater layer is a member
 abbrev pub IsClosed : Network → List DeviceId → Type 0
-IsClosed net set = (a b : DeviceId) → holds_device set a ≡ true → IsAbove net a b → holds_device set b ≡ true
+IsClosed net set = (a b : DeviceId) → holds_device set a ≡ true → IsAbove net a b
+    → holds_device set b ≡ true
 
 -- the set holds the given devices and is closed, and every closed set that holds them holds it
 pub record IsGrown (net : Network) (must set : List DeviceId) : Type 0 where
   pub given : IsPartOf must set
   pub closed : IsClosed net set
-  pub least : (other : List DeviceId) → IsPartOf must other → IsClosed net other → IsPartOf set other
+  pub least : (other : List DeviceId) → IsPartOf must other → IsClosed net other
+      → IsPartOf set other

@@ -1,4 +1,5 @@
-//! Growth by following links: each member is looked at once, in the order in which the members were found.
+//! Growth by following links: each member is looked at once, in the order in which the members were
+//! found.
 
 ghost use Rattle.std.specs.Prelude.{◌≡◌, All, IfOk, length};
 ghost use Rattle.cn_grow.specs.Growth.{IsAbove, IsGrown, layer_of};
@@ -30,7 +31,8 @@ fn add_above(
     requires size { length marks.old ≡ length net.now.devices }
     requires marked { IsMarked marks.old members.old.items }
     ensures marked { IfOk result (λ _. IsMarked marks.new members.new.items) }
-    ensures added { IfOk result (λ _. IsExtended (IsAbove net.now d) members.old.items members.new.items) }
+    ensures added { IfOk result
+        (λ _. IsExtended (IsAbove net.now d) members.old.items members.new.items) }
 {
     net.valid();
     let lower = layer(net, d);
@@ -43,8 +45,8 @@ fn add_above(
 }
 
 /// The least set that holds the given devices and every device that is linked to a member and has a
-/// strictly greater layer, whether the link is up or down. The given devices are devices of the network,
-/// and so are those of the set. Err comes only for want of memory.
+/// strictly greater layer, whether the link is up or down. The given devices are devices of the
+/// network, and so are those of the set. Err comes only for want of memory.
 pub fn grow(alloc: Global, net: &Net, must: &DeviceSet) -> Result<DeviceSet, AllocError>
     requires { All (IsDevice net.now) must.now }
     ensures grown { IfOk result (λ set. IsGrown net.now must.now set) }

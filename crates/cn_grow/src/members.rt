@@ -1,4 +1,5 @@
-//! The members of a set that grows, each once, and for each device a mark that tells whether it is one.
+//! The members of a set that grows, each once, and for each device a mark that tells whether it is
+//! one.
 
 ghost use Rattle.std.specs.Prelude.{◌≡◌, ◌<◌, true, All, IfOk, length};
 ghost use Rattle.cn_grow.specs.Members.{IsExtended, IsMarked, with_member};
@@ -31,7 +32,9 @@ pub fn add_all(
     requires devices { All (λ d. d.0 < length marks.old) devices.now }
     requires marked { IsMarked marks.old members.old.items }
     ensures marked { IfOk result (λ _. IsMarked marks.new members.new.items) }
-    ensures added { IfOk result (λ _. IsExtended (λ d. holds_device devices.now d ≡ true) members.old.items members.new.items) }
+    ensures added { IfOk result
+        (λ _. IsExtended (λ d. holds_device devices.now d ≡ true) members.old.items
+        members.new.items) }
 {
     for d in devices {
         add(marks, members, *d)?;

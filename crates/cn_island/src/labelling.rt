@@ -1,4 +1,5 @@
-//! Labels by following links: each island is searched from its least device, and each device is looked at once.
+//! Labels by following links: each island is searched from its least device, and each device is
+//! looked at once.
 
 ghost use Rattle.std.specs.Prelude.{◌≡◌, ◌+◌, ◌<◌, None, false, true, IfOk, length};
 ghost use Rattle.cn_island.specs.Found.{IsFound, IsNext, IsSearched, IsSpread};
@@ -18,7 +19,8 @@ fn label(
     requires device { d.0 < length labels.old }
     requires found { IsFound labels.old found.old.items }
     ensures found { IfOk result (λ _. IsFound labels.new found.new.items) }
-    ensures spread { IfOk result (λ _. IsSpread (λ x. x ≡ d) island labels.old labels.new found.old.items found.new.items) }
+    ensures spread { IfOk result
+        (λ _. IsSpread (λ x. x ≡ d) island labels.old labels.new found.old.items found.new.items) }
 {
     let place = d.0 as usize;
     if labels[place].is_none() {
@@ -40,7 +42,9 @@ fn label_neighbours(
     requires size { length labels.old ≡ length net.now.devices }
     requires found { IsFound labels.old found.old.items }
     ensures found { IfOk result (λ _. IsFound labels.new found.new.items) }
-    ensures spread { IfOk result (λ _. IsSpread (IsNext net.now (outside_of emulated.now) d) island labels.old labels.new found.old.items found.new.items) }
+    ensures spread { let next = IsNext net.now (outside_of emulated.now) d in
+        IfOk result
+        (λ _. IsSpread next island labels.old labels.new found.old.items found.new.items) }
 {
     net.valid();
     for n in net.neighbours(d) {
@@ -51,7 +55,8 @@ fn label_neighbours(
     Ok(())
 }
 
-/// Labels the island of an outside device without a label, all of whose lesser outside devices have one.
+/// Labels the island of an outside device without a label, all of whose lesser outside devices have
+/// one.
 fn label_island(
     net: &Net,
     emulated: &DeviceSet,
@@ -61,8 +66,11 @@ fn label_island(
 ) -> Result<(), AllocError>
     requires device { root.0 < length net.now.devices }
     requires outside { outside_of emulated.now root ≡ true }
-    requires searched { IsSearched net.now (outside_of emulated.now) labels.old found.old.items (length found.old.items) root.0 }
-    ensures { IfOk result (λ _. IsSearched net.now (outside_of emulated.now) labels.new found.new.items (length found.new.items) (root.0 + 1)) }
+    requires searched { let found = found.old.items in
+        IsSearched net.now (outside_of emulated.now) labels.old found (length found) root.0 }
+    ensures { let found = found.new.items in
+        let outside = outside_of emulated.now in
+        IfOk result (λ _. IsSearched net.now outside labels.new found (length found) (root.0 + 1)) }
 {
     net.valid();
     let mut next = found.len();
@@ -75,11 +83,13 @@ fn label_island(
     Ok(())
 }
 
-/// The labels of the islands: each device that isn't emulated has the number of the least device that
-/// a chain of links between such devices joins to it, and an emulated device has none. Err comes only
-/// for want of memory.
+/// The labels of the islands: each device that isn't emulated has the number of the least device
+/// that a chain of links between such devices joins to it, and an emulated device has none. Err
+/// comes only for want of memory.
 pub fn islands(alloc: Global, net: &Net, emulated: &DeviceSet) -> Result<Labels, AllocError>
-    ensures { IfOk result (λ labels. IsIslands net.now (outside_of emulated.now) (label_of labels)) }
+    ensures islands { IfOk result
+        (λ labels. IsIslands net.now (outside_of emulated.now) (label_of labels)) }
+    ensures size { IfOk result (λ labels. length labels ≡ length net.now.devices) }
 {
     let count = net.count();
     let mut labels = vec![in alloc; None; count as usize]?;

@@ -17,6 +17,7 @@ pub mod Making
 pub mod Members
 pub mod Offering
 pub mod Offers
+pub mod OneSet
 pub mod OneState
 pub mod Parts
 pub mod Peers

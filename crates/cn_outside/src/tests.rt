@@ -2,7 +2,8 @@ use super::*;
 use std::fs;
 use std::test::Fail;
 
-// A read that fails by its number, one of a name that isn't held, one that is too long, and one that succeeds.
+// A read that fails by its number, one of a name that isn't held, one that is too long, and one
+// that succeeds.
 #[test]
 fn reads_of_a_shelf_in_memory(rt: HostRuntime) -> Result<(), Fail> {
     let alloc = rt.alloc();

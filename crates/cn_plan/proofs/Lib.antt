@@ -1,4 +1,5 @@
 pub mod Boundaries
+pub mod Exclusive
 pub mod SameRows
 pub mod Rows
 pub mod Steps

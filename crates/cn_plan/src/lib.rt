@@ -11,6 +11,7 @@
 #![tactic(auto)]
 
 mod answer;
+pub mod laws;
 mod planning;
 mod selection;
 

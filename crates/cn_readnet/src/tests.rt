@@ -249,7 +249,8 @@ fn faulty_devices(rt: HostRuntime) -> Result<(), Fail> {
             "device[0].id",
         ),
         (
-            "name = \"a\"\nlayer = 1\nasn = 1\nid = \"1.2.3.4\"\nown = [\"1.0.0.0/8\", \"1.0.0.0/8\", 5]\n",
+            "name = \"a\"\nlayer = 1\nasn = 1\nid = \"1.2.3.4\"\n\
+            own = [\"1.0.0.0/8\", \"1.0.0.0/8\", 5]\n",
             "shape",
             "device[0].own[2]",
         ),
@@ -277,7 +278,8 @@ fn faulty_devices(rt: HostRuntime) -> Result<(), Fail> {
 
 // What stands in front of the texts of a second record.
 const FIRST_RECORD: &str =
-    "version = 1\nemulate = []\n[[record]]\ndevice = \"a\"\nprefix = \"1.0.0.0/8\"\npath = \"-\"\norigin = \"igp\"\n[[record]]\n";
+    "version = 1\nemulate = []\n[[record]]\ndevice = \"a\"\nprefix = \"1.0.0.0/8\"\npath = \"-\"\n\
+    origin = \"igp\"\n[[record]]\n";
 
 // Texts of a second record, and their first fault with its path.
 #[test]

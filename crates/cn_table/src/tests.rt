@@ -4,8 +4,8 @@ use cn_text::TextAnswer;
 use std::test::Fail;
 use toml::table_from_str;
 
-const TEXT: &str =
-    "address = \"10.0.0.1\"\nlayer = 7\nname = \"t1\"\nnames = [\"a\", \"b\"]\nprefix = \"10.1.1.0/24\"\ntable = {}\n";
+const TEXT: &str = "address = \"10.0.0.1\"\nlayer = 7\nname = \"t1\"\nnames = [\"a\", \"b\"]\n\
+    prefix = \"10.1.1.0/24\"\ntable = {}\n";
 
 // Each value of a table once.
 #[test]
@@ -64,7 +64,8 @@ fn documents(rt: HostRuntime) -> Result<(), Fail> {
 }
 
 const RECORD: &str =
-    "device = \"t1\"\nprefix = \"10.1.1.0/24\"\npath = \"65101 65201\"\norigin = \"egp\"\nempty = \"-\"\nwrong = \"1 02\"\nnumber = 3\n";
+    "device = \"t1\"\nprefix = \"10.1.1.0/24\"\npath = \"65101 65201\"\norigin = \"egp\"\n\
+    empty = \"-\"\nwrong = \"1 02\"\nnumber = 3\n";
 
 // Each value of a record once, and a name that may be absent.
 #[test]

@@ -1,23 +1,19 @@
 -- A text stands for at most one network, one choice of its devices and one list of rows.
-use Rattle.std.proofs.Common.{◌≡◌, ℕ, ◌<◌, ◌++◌, Bool, true, false, not, List, [], ◌∷◌, get_or, map, Less, All, AllPairs, Option, Some, None, option_map, Result, Ok, refl, sym, ap, subst, ◌∙◌, arith}
+use Rattle.std.proofs.Common.{◌≡◌, ℕ, ◌++◌, Bool, true, false, not, List, [], ◌∷◌, map, All, Option, Some, None, option_map, Result, Ok, refl, sym, ap, subst, ◌∙◌}
 use Rattle.std.specs.Prelude.{find}
 use Rattle.std.specs.List.{IsDistinct, flat_map}
-use Rattle.std.specs.Ordering.{nat_cmp, on}
 use Rattle.std.specs.Str.{bytes_eq}
-use Rattle.std.proofs.lemmas.Bool.Decides.{nat_tests}
 use Rattle.std.proofs.lemmas.List.Elements.{All-contains, All-head, All-tail}
-use Rattle.std.proofs.lemmas.Map.Keys.{Less-from_sorted}
 use Rattle.std.proofs.lemmas.Option.{none-some, same_Some}
 use Rattle.cn_base.specs.declared.ids.DeviceId.{DeviceId}
 use Rattle.cn_grow.specs.Growth.{IsGrown}
 use Rattle.cn_net.specs.Drafted.{draft_of}
-use Rattle.cn_net.specs.Islands.{IsAscending, holds_device}
+use Rattle.cn_net.specs.Islands.{holds_device}
 use Rattle.cn_net.specs.Network.{Network, IsDevice, name_of}
 use Rattle.cn_net.specs.declared.draft.Draft.{Draft}
 use Rattle.cn_net.proofs.Drafts.{same_name, same_network}
 use Rattle.cn_net.proofs.Making.{faultless_where}
-use Rattle.cn_net.proofs.Members.{contained, held}
-use Rattle.cn_net.proofs.Peers.{same_elements}
+use Rattle.cn_net.proofs.OneSet.{same_sets}
 use Rattle.cn_net.specs.Limits.{IsWithinLimits}
 use Rattle.cn_net.specs.declared.fault.What.TheVariants.{Devices, Links, Prefixes, Emulated, Rows}
 use Rattle.cn_readnet.specs.Plan.{plan_of}
@@ -83,22 +79,6 @@ module _ (net : Network) (distinct : IsDistinct bytes_eq (map (λ d. d.name) net
 
 -- ---- the emulated devices
 
-below : (x y : DeviceId) → on (λ (d : DeviceId). d.0) nat_cmp x y ≡ Less → x.0 < y.0
-below x y h = grind (arith, nat_tests)
-
-ascends : (set : List DeviceId) → IsAscending set → AllPairs (λ a b. a.0 < b.0) set
-ascends set up i j d lt within =
-    below (get_or set i d) (get_or set j d)
-    (Less-from_sorted (on (λ (x : DeviceId). x.0) nat_cmp) set i j d up lt within)
-
--- sets with the same devices are one set
-same_sets : (xs ys : List DeviceId) → IsAscending xs → IsAscending ys
-    → ((d : DeviceId) → holds_device xs d ≡ holds_device ys d) → xs ≡ ys
-same_sets xs ys up up' alike =
-    same_elements xs ys (ascends xs up) (ascends ys up')
-    (λ d h. contained ys d (sym (alike d) ∙ held xs d h))
-    (λ d h. contained xs d (alike d ∙ held ys d h))
-
 same_from : (a b : Bool) → (a ≡ true → b ≡ true) → (b ≡ true → a ≡ true) → a ≡ b
 same_from true b f g = sym (f refl)
 same_from false true f g = g refl
@@ -132,9 +112,10 @@ pub same_emulation : (text : NetText) (x y : Emulation) → IsEmulationOf text x
 same_emulation text x y h k =
     let net = same_network x.net y.net h.valid k.valid (h.draft ∙ sym k.draft) in
     let chosen = subst (λ (n : Network). Chooses n text.selection y.emulated) (sym net) k.chosen in
+    let alike = chosen_alike x.net text.selection x.emulated y.emulated h.chosen chosen in
     let emulated =
-    same_sets x.emulated y.emulated h.ascending k.ascending
-    (chosen_alike x.net text.selection x.emulated y.emulated h.chosen chosen) in
+    same_sets x.emulated y.emulated h.ascending k.ascending (λ d t. sym (alike d) ∙ t)
+    (λ d t. alike d ∙ t) in
     let recorded = subst (λ (n : Network). ReadAs n text.rows y.rows) (sym net) k.recorded in
     let rows = read_as_one x.net h.valid.names text.rows x.rows y.rows h.recorded recorded in
     λ i. record { net = net i; emulated = emulated i; rows = rows i }

@@ -81,12 +81,15 @@ const EMULATED: &str =
     "certified emulated 5 islands 0\nemulate t1\nemulate t2\nemulate l1\nemulate l2\nemulate s1\n";
 
 const USAGE: &str =
-    "usage: crystal plan FILE, serial FILE SCRIPT TRACE, replay FILE SCRIPT TRACE, save FILE, make PODS LEAVES RACKS SPINES SHIFT, sample PODS LEAVES RACKS SPINES SHIFT, live FILE SCRIPT TRACE WORKERS WATCHERS\n";
+    "usage: crystal plan FILE, serial FILE SCRIPT TRACE, replay FILE SCRIPT TRACE, save FILE, make \
+    PODS LEAVES RACKS SPINES SHIFT, sample PODS LEAVES RACKS SPINES SHIFT, live FILE SCRIPT TRACE \
+    WORKERS WATCHERS\n";
 
 // The plan of the five devices, with these names in `emulate` and these prefixes of t1.
 fn plan(alloc: Global, emulate: &str, own: &str) -> Result<String, Fail> {
     let text = format!(in alloc;
-        "version = 1\nemulate = [{emulate}]\n[[device]]\nname = \"t1\"\nlayer = 1\nasn = 65101\nid = \"10.0.0.1\"\nown = [{own}]\n{OTHERS}"
+        "version = 1\nemulate = [{emulate}]\n[[device]]\nname = \"t1\"\nlayer = 1\nasn = 65101\n\
+        id = \"10.0.0.1\"\nown = [{own}]\n{OTHERS}"
     )?;
     Ok(text)
 }
@@ -203,7 +206,8 @@ origin = \"igp\"
 ";
 
 const ONE_OUTSIDE: &str =
-    "certified emulated 4 islands 1\nemulate t1\nemulate l1\nemulate l2\nemulate s1\nisland t2: t2\n";
+    "certified emulated 4 islands 1\nemulate t1\nemulate l1\nemulate l2\nemulate s1\n\
+    island t2: t2\n";
 
 // A plan with an outside device: `plan` shows its island.
 #[test]
@@ -425,8 +429,8 @@ fn script_in_another_form(rt: HostRuntime) -> Result<(), Fail> {
     Ok(())
 }
 
-// The second read fails; then the write, which is the third call, so that nothing is put; and then the
-// second put, which takes three bytes.
+// The second read fails; then the write, which is the third call, so that nothing is put; and then
+// the second put, which takes three bytes.
 #[test]
 fn failing_calls_of_a_run(rt: HostRuntime) -> Result<(), Fail> {
     let alloc = rt.alloc();

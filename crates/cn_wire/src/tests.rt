@@ -262,6 +262,25 @@ fn unused_bits(rt: HostRuntime) -> Result<(), Fail> {
     Ok(())
 }
 
+// A prefix of each length, all of whose bits are 1: how long its message is, and what is read of it.
+#[test]
+fn each_length(rt: HostRuntime) -> Result<(), Fail> {
+    let alloc = rt.alloc();
+    for len in 0..33u8 {
+        let bits = u32::MAX.checked_shl(32 - u32::from(len)).unwrap_or(0);
+        let update = Update {
+            withdrawn: Items::make(vec![in alloc; prefix(&rt, bits, len)]?),
+            attrs: None,
+            announced: Items::make(Vec::new(alloc)),
+        };
+        let octets = octets_of(&rt, alloc, &update)?;
+        assert_eq!(rt; octets.len(), 24 + usize::from(len).div_ceil(8));
+        let again = decode(alloc, &octets).ok().ok_or("a message")?;
+        assert_eq!(rt; again.withdrawn.items(), update.withdrawn.items());
+    }
+    Ok(())
+}
+
 // How many numbers a path has, and how many octets its announcement with a prefix of length 32:
 // from 64 numbers on, the length of the path takes two octets.
 #[test]

@@ -15,8 +15,14 @@ loop-next-init c =
     let h = c.in_ok-label.ensures.spread in
     let size : length c.label.new.labels ≡ length net.devices = c.label.auto.labels ∙ s.size in
     let start : length c.args.found.now.items ≡ c.len-next.result = omega arith in (
-      subst (λ k. IsSearched net o c.label.new.labels c.label.new.found.items k (c.args.root.0 + 1)) start (first_searched net o c.args.root c.args.labels.now c.label.new.labels c.args.found.now.items c.label.new.found.items s h c.requires.outside size c.in_ok-label.ensures.found),
-      subst (λ k. IsPending c.label.new.labels c.label.new.found.items k c.args.root) start (first_pending net o c.args.root c.args.labels.now c.label.new.labels c.args.found.now.items c.label.new.found.items s h c.requires.outside size c.in_ok-label.ensures.found),
+      subst (λ k. IsSearched net o c.label.new.labels c.label.new.found.items k (c.args.root.0 + 1))
+          start (first_searched net o c.args.root c.args.labels.now c.label.new.labels
+          c.args.found.now.items c.label.new.found.items s h c.requires.outside size
+          c.in_ok-label.ensures.found),
+      subst (λ k. IsPending c.label.new.labels c.label.new.found.items k c.args.root) start
+          (first_pending net o c.args.root c.args.labels.now c.label.new.labels
+          c.args.found.now.items c.label.new.found.items s h c.requires.outside size
+          c.in_ok-label.ensures.found),
     )
 
 pub loop-next-preserved : goal.loop-next-preserved
@@ -26,10 +32,18 @@ loop-next-preserved c =
     let s = c.loop-next.invariant.0 in
     let w = c.loop-next.invariant.1 in
     let h = c.in_ok-label_neighbours.ensures.spread in
-    let size : length c.label_neighbours.new.labels ≡ length net.devices = c.label_neighbours.auto.labels ∙ s.size in
+    let size : length c.label_neighbours.new.labels ≡ length net.devices =
+    c.label_neighbours.auto.labels ∙ s.size in
     let lt : c.loop-next.next < length c.loop-next.found.items = omega arith in
     let below : c.args.root.0 < c.args.root.0 + 1 = omega arith in
-    let devices : (b : DeviceId) → IsLinked net c.index-d.result.now b → IsDevice net b = λ b l. (linked_devices net c.index-d.result.now b c.valid.ensures l).1 in (
-      next_searched net o c.args.root c.loop-next.labels c.label_neighbours.new.labels c.loop-next.found.items c.label_neighbours.new.found.items c.loop-next.next (c.args.root.0 + 1) c.index-d.result.now s w h lt c.index-d.ensures below size c.in_ok-label_neighbours.ensures.found devices,
-      next_pending net o c.args.root c.loop-next.labels c.label_neighbours.new.labels c.loop-next.found.items c.label_neighbours.new.found.items c.loop-next.next (c.args.root.0 + 1) c.index-d.result.now s w h lt c.index-d.ensures below size c.in_ok-label_neighbours.ensures.found devices,
+    let devices : (b : DeviceId) → IsLinked net c.index-d.result.now b → IsDevice net b =
+    λ b l. (linked_devices net c.index-d.result.now b c.valid.ensures l).1 in (
+      next_searched net o c.args.root c.loop-next.labels c.label_neighbours.new.labels
+          c.loop-next.found.items c.label_neighbours.new.found.items c.loop-next.next
+          (c.args.root.0 + 1) c.index-d.result.now s w h lt c.index-d.ensures below size
+          c.in_ok-label_neighbours.ensures.found devices,
+      next_pending net o c.args.root c.loop-next.labels c.label_neighbours.new.labels
+          c.loop-next.found.items c.label_neighbours.new.found.items c.loop-next.next
+          (c.args.root.0 + 1) c.index-d.result.now s w h lt c.index-d.ensures below size
+          c.in_ok-label_neighbours.ensures.found devices,
     )

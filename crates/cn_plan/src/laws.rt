@@ -1,0 +1,29 @@
+//! Laws of the definitions. Each function does nothing; its contract is the law.
+
+ghost use Rattle.std.specs.Prelude.{◌≡◌, Bool, List};
+ghost use Rattle.cn_base.specs.declared.ids.DeviceId.{DeviceId};
+ghost use Rattle.cn_net.specs.Network.{Network};
+ghost use Rattle.cn_plan.specs.Boundary.{BoundaryFault, IsFirstFault, IsSafe, IsUnsafe};
+ghost use Rattle.cn_plan.specs.Planned.{AnswersPlan, IsPlan};
+ghost use Rattle.cn_plan.specs.declared.answer.PlanAnswer.{PlanAnswer};
+ghost use Rattle.cn_plan.specs.declared.answer.PlanAnswer.TheVariants.{Memory};
+ghost use Rattle.cn_plan.specs.declared.selection.Selection.{Selection};
+ghost use Rattle.cn_record.specs.Recorded.{RecordedOpening};
+ghost use Rattle.cn_record.specs.declared.saved.Row.{Row};
+
+/// A boundary isn't both safe and unsafe, and what is first wrong with one makes it unsafe.
+pub fn safe_or_unsafe()
+    ensures one { (net : Network) (outside : DeviceId → Bool) (rows : List Row)
+        → IsSafe net outside rows → IsUnsafe net outside rows → ⊥ }
+    ensures fault { (net : Network) (outside : DeviceId → Bool) (rows : List Row)
+        (fault : BoundaryFault)
+        → IsFirstFault net outside rows fault → IsUnsafe net outside rows }
+{}
+
+/// Where a network, a selection and rows have a plan, nothing but want of memory is answered in its
+/// place: so `plan` answers Ok exactly where there is a plan and memory for it.
+pub fn plan_or_answer()
+    ensures { (net : Network) (selection : Selection) (rows : List Row) (r : RecordedOpening)
+        (answer : PlanAnswer)
+        → IsPlan net selection rows r → AnswersPlan net selection rows answer → answer ≡ Memory }
+{}
