@@ -7,7 +7,7 @@ use Rattle.cn_base.specs.Cidr.{Cidr}
 use Rattle.cn_base.specs.declared.ids.DeviceId.{DeviceId}
 use Rattle.cn_net.specs.Certificate.{HasCertificate, HasOwnPrefixes, HaveOneSystem, IsCertified}
 use Rattle.cn_net.specs.Network.{Network}
-use Rattle.cn_cert.specs.Refusal.{Faces, IsFacingRefusal, IsOriginsRefusal, IsRefusal, Refuses, StandsBefore, island_of, kind_place, side_place}
+use Rattle.cn_cert.specs.Refusal.{Faces, IsFacingRefusal, IsOriginsRefusal, IsRefusal, Refuses, ComesBefore, island_of, kind_place, side_place}
 use Rattle.cn_cert.specs.Steps.{HaveOwnPrefixes, IsCleanSide, IsFirstNamed, IsFirstOfKind, earlier_of}
 use Rattle.cn_cert.specs.declared.refusal.Refusal.{Refusal}
 use Rattle.cn_cert.specs.declared.refusal.Refusal.TheVariants.{Facing, Origins}
@@ -72,7 +72,7 @@ module _ (net : Network) (outside : DeviceId → Bool) (name : DeviceId → Opti
   record IsFirstBelow (n : ℕ) (r : Refusal) : Type 0 where
     refuses : IsHere r
     kind : kind_place r < n
-    first : (s : Refusal) → IsHere s → kind_place s < n → StandsBefore s r → ⊥
+    first : (s : Refusal) → IsHere s → kind_place s < n → ComesBefore s r → ⊥
 
   abbrev FirstBelow : ℕ → Option Refusal → Type 0
   FirstBelow n None = (s : Refusal) → IsHere s → kind_place s < n → ⊥

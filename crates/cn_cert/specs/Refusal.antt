@@ -103,8 +103,8 @@ kind_place (Origins island prefix inside elsewhere) = 2
 
 -- the refusal of an island with a lower least device stands before others, and in an island they go
 -- by their kinds
-abbrev pub StandsBefore : Refusal → Refusal → Type 0
-StandsBefore r s =
+abbrev pub ComesBefore : Refusal → Refusal → Type 0
+ComesBefore r s =
     ((island_of r).0 < (island_of s).0)
     ⊎ (((island_of r).0 ≡ (island_of s).0) × (kind_place r < kind_place s))
 
@@ -113,4 +113,4 @@ pub record IsFirstRefusal
     (net : Network) (outside : DeviceId → Bool) (label : DeviceId → Option DeviceId)
     (r : Refusal) : Type 0 where
   pub refusal : IsRefusal net outside label r
-  pub first : (s : Refusal) → IsRefusal net outside label s → StandsBefore s r → ⊥
+  pub first : (s : Refusal) → IsRefusal net outside label s → ComesBefore s r → ⊥

@@ -13,7 +13,7 @@ use Rattle.cn_base.specs.declared.ids.DeviceId.{DeviceId}
 use Rattle.cn_net.specs.Certificate.{HaveOneSystem, HasOwnPrefixes}
 use Rattle.cn_net.specs.Network.{Network, IsDevice, asn_of, same_device}
 use Rattle.cn_net.specs.declared.device.Link.{Link}
-use Rattle.cn_cert.specs.Refusal.{Faces, IsLeast, IsLeastOf, Refuses, StandsBefore, island_of, kind_place}
+use Rattle.cn_cert.specs.Refusal.{Faces, IsLeast, IsLeastOf, Refuses, ComesBefore, island_of, kind_place}
 use Rattle.cn_cert.specs.declared.members.Member.{Member}
 use Rattle.cn_cert.specs.declared.refusal.Refusal.{Refusal}
 use Rattle.cn_cert.specs.declared.refusal.Side.{Side}
@@ -151,7 +151,7 @@ pub record IsFirstNamed
     (net : Network) (outside : DeviceId → Bool) (name : DeviceId → Option DeviceId)
     (r : Refusal) : Type 0 where
   pub refuses : Refuses net outside name (island_of r) r
-  pub first : (s : Refusal) → Refuses net outside name (island_of s) s → StandsBefore s r → ⊥
+  pub first : (s : Refusal) → Refuses net outside name (island_of s) s → ComesBefore s r → ⊥
 
 -- x, or y where there is no x or y is of a lower island
 abbrev pub earlier_of : Option Refusal → Option Refusal → Option Refusal

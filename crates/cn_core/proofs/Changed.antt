@@ -11,8 +11,8 @@ use Rattle.cn_core.specs.declared.event.Event.TheVariants.{Send}
 use Rattle.cn_core.specs.declared.message.Message.{Message}
 use Rattle.cn_core.specs.declared.session.Rib.{Rib}
 use Rattle.cn_core.specs.declared.session.Session.{Session}
-use Rattle.cn_core.specs.Machine.{can, decided, put_out, receive, send, soiled, taken_in, with_rib, with_session}
-use Rattle.cn_core.specs.Parts.{put_out_if, received, received_of, soiled_by}
+use Rattle.cn_core.specs.Machine.{can, decided, put_out, receive, send, with_dirty, taken_in, with_rib, with_session}
+use Rattle.cn_core.specs.Parts.{put_out_if, received, received_of, with_all_dirty}
 use Rattle.cn_core.specs.State.{CoreState, empty_rib, empty_session, is_session, owed, owed_by, prefix_of, rib, session}
 use Rattle.cn_core.specs.Whole.{IsNowhere, IsPlaceOf, IsWhole}
 use Rattle.cn_core.proofs.Access.{ends_are, found_has}
@@ -34,15 +34,15 @@ receive_both : (s : CoreState) (a b : DeviceId) (i : ℕ) (x : Session) (y : Rib
     → ◌≡◌ {A = CoreState} (record {
       net = s.net;
       sessions = set s.sessions i (taken_in m rest x);
-      ribs = set s.ribs b.0 (soiled y (prefix_of m));
-    }) (with_rib (with_session s a b (taken_in m rest)) b (soiled (rib s b) (prefix_of m)))
+      ribs = set s.ribs b.0 (with_dirty y (prefix_of m));
+    }) (with_rib (with_session s a b (taken_in m rest)) b (with_dirty (rib s b) (prefix_of m)))
 unfolding with_session with_rib
 receive_both s a b i x y p is range read m rest = λ j. record {
   net = s.net;
   sessions =
       (ap (λ z. set s.sessions i (taken_in m rest z)) is
       ∙ sym (changed_at a b s.sessions i x (taken_in m rest) p)) j;
-  ribs = set s.ribs b.0 (soiled (rib_read s b y range read j) (prefix_of m));
+  ribs = set s.ribs b.0 (with_dirty (rib_read s b y range read j) (prefix_of m));
 }
 
 receive_is : (s : CoreState) (a b : DeviceId) (i : ℕ) (x : Session) (y : Rib)
@@ -51,7 +51,7 @@ receive_is : (s : CoreState) (a b : DeviceId) (i : ℕ) (x : Session) (y : Rib)
     → ◌≡◌ {A = CoreState} (record {
       net = s.net;
       sessions = set s.sessions i (received x);
-      ribs = set s.ribs b.0 (soiled_by x.mail y);
+      ribs = set s.ribs b.0 (with_all_dirty x.mail y);
     }) (receive s a b (session s a b).mail)
 receive_is s a b i x y p is range read some =
     let at : session s a b ≡ x = session_read s a b i x p is in
@@ -62,14 +62,14 @@ receive_is s a b i x y p is range read some =
         → ◌≡◌ {A = CoreState} (record {
           net = s.net;
           sessions = set s.sessions i (received_of x.mail x);
-          ribs = set s.ribs b.0 (soiled_by x.mail y);
+          ribs = set s.ribs b.0 (with_all_dirty x.mail y);
         }) (receive s a b x.mail)
     by_mail [] m h = absurd (omega (arith, h))
     by_mail (m ∷ rest) is_mail h =
         subst (λ ms. ◌≡◌ {A = CoreState} (record {
           net = s.net;
           sessions = set s.sessions i (received_of ms x);
-          ribs = set s.ribs b.0 (soiled_by ms y);
+          ribs = set s.ribs b.0 (with_all_dirty ms y);
         }) (receive s a b ms)) (sym is_mail) (receive_both s a b i x y p is range read m rest)
 
 send_is : (s : CoreState) (a b : DeviceId) (i : ℕ) (x : Session) (o : Option Message)
@@ -112,7 +112,7 @@ module _ (nn : Network) (ss : List Session) (rs : List Rib) (s : CoreState)
     (v : ◌≡◌ {A = CoreState} (record { net = nn; sessions = ss; ribs = rs }) s) where
   pub receive_whole : (a b : DeviceId) (i : ℕ) (x nx : Session) (y ny : Rib)
       → IsPlaceOf a b s.sessions i → x ≡ get_or ss i x → b.0 < length s.ribs → y ≡ get_or rs b.0 y
-      → 0 < length (session s a b).mail → nx ≡ received x → ny ≡ soiled_by x.mail y
+      → 0 < length (session s a b).mail → nx ≡ received x → ny ≡ with_all_dirty x.mail y
       → ◌≡◌ {A = CoreState} (record { net = nn; sessions = set ss i nx; ribs = set rs b.0 ny })
       (receive s a b (session s a b).mail)
   receive_whole a b i x nx y ny p is range read some new_x new_y =

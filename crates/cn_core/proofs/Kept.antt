@@ -29,7 +29,7 @@ use Rattle.cn_core.specs.declared.message.Message.TheVariants.{Withdraw, Announc
 use Rattle.cn_core.specs.declared.session.Rib.{Rib}
 use Rattle.cn_core.specs.declared.session.Session.{Session}
 use Rattle.cn_core.specs.Laws.{CleanIsDecided, IsKept, IsSpeaking, RunLaw, SpeakersSay, ends_of, held_in, links_into}
-use Rattle.cn_core.specs.Machine.{IsEnabled, IsRun, IsRunFrom, came_at, can, decide, put_choice, put_out, receive, send, soiled, state, step, taken_in, with_rib, with_session}
+use Rattle.cn_core.specs.Machine.{IsEnabled, IsRun, IsRunFrom, came_at, can, decide, put_choice, put_out, receive, send, with_dirty, state, step, taken_in, with_rib, with_session}
 use Rattle.cn_core.specs.Start.{start}
 use Rattle.cn_core.specs.State.{CoreState, apply, apply_all, empty_session, is_session, owed_by, prefix_of, rib, session}
 use Rattle.cn_core.proofs.Access.{KeepsEnds, all_at_first, came_kept, came_of_rib, ends_are, ends_kept, found_has, found_is, rib_of_session, rib_other, rib_past, rib_same}
@@ -272,11 +272,12 @@ dirty_emulated r s say d p dirty =
 kept_received : (r : RecordedOpening) (s : CoreState) (k : IsKept r s) (a b : DeviceId)
     (m : Message) (rest : List Message)
     → (session s a b).mail ≡ m ∷ rest
-    → IsKept r (with_rib (with_session s a b (taken_in m rest)) b (soiled (rib s b) (prefix_of m)))
+    → IsKept r (with_rib (with_session s a b (taken_in m rest)) b (with_dirty (rib s b)
+    (prefix_of m)))
 kept_received r s k a b m rest e =
     let o = r.opening in
     let f = taken_in m rest in
-    let x = soiled (rib s b) (prefix_of m) in
+    let x = with_dirty (rib s b) (prefix_of m) in
     let mail : (y : Session) → session s a b ≡ y → y.mail ≡ m ∷ rest =
     λ y is. ap (λ (z : Session). z.mail) (sym is) ∙ e in
     kept_of r (with_rib (with_session s a b f) b x)

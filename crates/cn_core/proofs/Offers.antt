@@ -12,16 +12,18 @@ use Rattle.cn_net.specs.Network.{Network}
 use Rattle.cn_net.specs.Stable.{offer_of, route_of}
 use Rattle.cn_net.proofs.Offering.{offer-gives}
 use Rattle.cn_core.specs.Machine.{route_with}
-use Rattle.cn_core.specs.State.{attributes_of, is_news, offered, same_attributes}
+use Rattle.cn_core.specs.State.{attributes_of, is_news, offered_attributes, same_attributes}
 use Rattle.cn_core.proofs.Owing.{attributes_themselves, same_attributes_are}
 
-pub offered_none : (net : Network) (a b : DeviceId) (p : Cidr) → offered net a b p None ≡ None
-unfolding offered offer_of
+pub offered_none : (net : Network) (a b : DeviceId) (p : Cidr)
+    → offered_attributes net a b p None ≡ None
+unfolding offered_attributes offer_of
 offered_none net a b p = refl
 
 pub offered_some : (net : Network) (a b : DeviceId) (p : Cidr) (c : Choice)
-    → offered net a b p (Some c) ≡ option_map attributes_of (offer net a b (route_of p c))
-unfolding offered offer_of
+    → offered_attributes net a b p (Some c) ≡ option_map attributes_of
+    (offer net a b (route_of p c))
+unfolding offered_attributes offer_of
 offered_some net a b p c = refl
 
 none_mapped : (o : Option Route) → is_none (option_map attributes_of o) ≡ not (is_some o)
@@ -33,12 +35,12 @@ some_mapped None = refl
 some_mapped (Some r) = refl
 
 pub offered_is_none : (net : Network) (a b : DeviceId) (p : Cidr) (c : Choice)
-    → is_none (offered net a b p (Some c)) ≡ not (is_some (offer net a b (route_of p c)))
+    → is_none (offered_attributes net a b p (Some c)) ≡ not (is_some (offer net a b (route_of p c)))
 offered_is_none net a b p c =
     ap is_none (offered_some net a b p c) ∙ none_mapped (offer net a b (route_of p c))
 
 pub offered_is_some : (net : Network) (a b : DeviceId) (p : Cidr) (c : Choice)
-    → is_some (offered net a b p (Some c)) ≡ is_some (offer net a b (route_of p c))
+    → is_some (offered_attributes net a b p (Some c)) ≡ is_some (offer net a b (route_of p c))
 offered_is_some net a b p c =
     ap is_some (offered_some net a b p c) ∙ some_mapped (offer net a b (route_of p c))
 
@@ -68,7 +70,7 @@ news_of net a b p c g false (Some x) e s t =
 pub news_some : (net : Network) (a b : DeviceId) (p : Cidr) (c : Choice) (g : Attributes) (r : Bool)
     → is_some (offer net a b (route_of p c)) ≡ true
     → (IsTrue r ↔ (offer net a b (route_of p c) ≡ Some (route_with p g)))
-    → not r ≡ is_news (Some g) (offered net a b p (Some c))
+    → not r ≡ is_news (Some g) (offered_attributes net a b p (Some c))
 news_some net a b p c g r s t =
     news_of net a b p c g r (offer net a b (route_of p c)) refl s t
     ∙ ap (is_news (Some g)) (sym (offered_some net a b p c))
@@ -80,7 +82,7 @@ news_without o (Some r) s = absurd (true≢false s)
 
 pub news_none : (net : Network) (a b : DeviceId) (p : Cidr) (c : Choice) (o : Option Attributes)
     → is_some (offer net a b (route_of p c)) ≡ false
-    → false ≡ is_news o (offered net a b p (Some c))
+    → false ≡ is_news o (offered_attributes net a b p (Some c))
 news_none net a b p c o s =
     news_without o (offer net a b (route_of p c)) s
     ∙ ap (is_news o) (sym (offered_some net a b p c))
@@ -90,6 +92,6 @@ unsent None = refl
 unsent (Some r) = refl
 
 pub news_unsent : (net : Network) (a b : DeviceId) (p : Cidr) (c : Choice)
-    → is_some (offer net a b (route_of p c)) ≡ is_news None (offered net a b p (Some c))
+    → is_some (offer net a b (route_of p c)) ≡ is_news None (offered_attributes net a b p (Some c))
 news_unsent net a b p c =
     unsent (offer net a b (route_of p c)) ∙ ap (is_news None) (sym (offered_some net a b p c))

@@ -23,7 +23,7 @@ use Rattle.cn_net.specs.Network.{Network}
 use Rattle.cn_net.specs.Stable.{offer_of}
 use Rattle.cn_core.specs.declared.message.Message.TheVariants.{Announce}
 use Rattle.cn_core.specs.Laws.{OwedLaw}
-use Rattle.cn_core.specs.State.{announcement, is_news, offered, owed, owed_of, same_attributes, same_numbers, wanted, withdrawal}
+use Rattle.cn_core.specs.State.{announcement, is_news, offered_attributes, owed, owed_of, same_attributes, same_numbers, wanted, withdrawal}
 use Rattle.cn_core.proofs.Access.{and_parts}
 
 -- ---- attributes that are the same
@@ -135,8 +135,9 @@ a_match {X} t (x ∷ xs) e s f =
 
 -- ---- what is owed
 
-pub nothing_offered : (net : Network) (a b : DeviceId) (p : Cidr) → offered net a b p None ≡ None
-unfolding offered offer_of
+pub nothing_offered : (net : Network) (a b : DeviceId) (p : Cidr)
+    → offered_attributes net a b p None ≡ None
+unfolding offered_attributes offer_of
 nothing_offered net a b p = refl
 
 module _ (net : Network) (a b : DeviceId) (sent : FinMap prefix_cmp Attributes)
@@ -154,28 +155,32 @@ module _ (net : Network) (a b : DeviceId) (sent : FinMap prefix_cmp Attributes)
       gone (Some x) t q = absurd (true≢false (sym t))
 
   announced_news : (e : Cidr × Choice) → announcement net a b sent best ≡ Some e
-      → is_news (fin.get sent e.0) (offered net a b e.0 (Some e.1)) ≡ true
+      → is_news (fin.get sent e.0) (offered_attributes net a b e.0 (Some e.1)) ≡ true
   announced_news e f =
-      (a_match (λ (x : Cidr × Choice). is_news (fin.get sent x.0) (offered net a b x.0 (Some x.1)))
+      (a_match (λ (x : Cidr × Choice). is_news (fin.get sent x.0)
+      (offered_attributes net a b x.0 (Some x.1)))
       (fin.entries best) e (fin.entries_sorted best) f).1
 
   announced_differs : (e : Cidr × Choice) → announcement net a b sent best ≡ Some e
       → fin.get sent e.0 ≢ wanted net a b best e.0
   announced_differs e f is =
       let at =
-      a_match (λ (x : Cidr × Choice). is_news (fin.get sent x.0) (offered net a b x.0 (Some x.1)))
+      a_match (λ (x : Cidr × Choice). is_news (fin.get sent x.0)
+      (offered_attributes net a b x.0 (Some x.1)))
       (fin.entries best) e (fin.entries_sorted best) f in
-      news_differs (fin.get sent e.0) (offered net a b e.0 (Some e.1)) at.1
-      (is ∙ ap (offered net a b e.0) (fin.get-entries best e.0 ∙ at.0))
+      news_differs (fin.get sent e.0) (offered_attributes net a b e.0 (Some e.1)) at.1
+      (is ∙ ap (offered_attributes net a b e.0) (fin.get-entries best e.0 ∙ at.0))
 
   -- where neither is found, each prefix was sent as it is offered
   sent_as_offered : withdrawal net a b sent best ≡ None → announcement net a b sent best ≡ None
       → (p : Cidr) → fin.get sent p ≡ wanted net a b best p
   sent_as_offered w n p =
-      by_offer (fin.get sent p) refl (fin.get best p) refl (offered net a b p (fin.get best p)) refl
+      by_offer (fin.get sent p) refl (fin.get best p) refl
+      (offered_attributes net a b p (fin.get best p)) refl
     where
       by_offer : (g : Option Attributes) → fin.get sent p ≡ g → (c : Option Choice)
-          → fin.get best p ≡ c → (f : Option Attributes) → offered net a b p (fin.get best p) ≡ f
+          → fin.get best p ≡ c → (f : Option Attributes)
+          → offered_attributes net a b p (fin.get best p) ≡ f
           → g ≡ f
       by_offer None ge c ce None fe = refl
       by_offer (Some h) ge c ce None fe =
@@ -184,22 +189,25 @@ module _ (net : Network) (a b : DeviceId) (sent : FinMap prefix_cmp Attributes)
           w p h (sym (fin.get-entries sent p) ∙ ge) in
           absurd (true≢false (sym (ap is_none fe) ∙ kept))
       by_offer g ge None ce (Some f) fe =
-          let none = ap (offered net a b p) ce ∙ nothing_offered net a b p in cc
+          let none = ap (offered_attributes net a b p) ce ∙ nothing_offered net a b p in cc
       by_offer g ge (Some c) ce (Some f) fe =
           let kept =
           no_match
-          (λ (x : Cidr × Choice). is_news (fin.get sent x.0) (offered net a b x.0 (Some x.1)))
+          (λ (x : Cidr × Choice). is_news (fin.get sent x.0)
+          (offered_attributes net a b x.0 (Some x.1)))
           (fin.entries best) n p c (sym (fin.get-entries best p) ∙ ce) in
           not_news g f
-          ((λ i. is_news (sym ge i) (sym (ap (offered net a b p) (sym ce) ∙ fe) i)) ∙ kept)
+          ((λ i. is_news (sym ge i) (sym (ap (offered_attributes net a b p) (sym ce) ∙ fe) i))
+          ∙ kept)
 
   owed_cases : (w : Option (Cidr × Attributes)) (n : Option (Cidr × Choice))
       → withdrawal net a b sent best ≡ w → announcement net a b sent best ≡ n
       → is_some (owed_of net a b w n) ≡ (is_some w || is_some n)
   owed_cases (Some e) n we ne = refl
   owed_cases None (Some e) we ne =
-      some_mapped (offered net a b e.0 (Some e.1))
-      (news_is_some (fin.get sent e.0) (offered net a b e.0 (Some e.1)) (announced_news e ne))
+      some_mapped (offered_attributes net a b e.0 (Some e.1))
+      (news_is_some (fin.get sent e.0) (offered_attributes net a b e.0 (Some e.1))
+      (announced_news e ne))
     where
       some_mapped : (o : Option Attributes) → is_some o ≡ true
           → is_some (option_map (Announce e.0) o) ≡ true

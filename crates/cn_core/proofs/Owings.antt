@@ -21,10 +21,10 @@ use Rattle.cn_core.specs.declared.event.Event.TheVariants.{Receive, Decide, Send
 use Rattle.cn_core.specs.declared.message.Message.{Message}
 use Rattle.cn_core.specs.declared.session.Rib.{Rib}
 use Rattle.cn_core.specs.declared.session.Session.{Session}
-use Rattle.cn_core.specs.Machine.{after_event, at_first, can, decided, put_choice, put_out, receive, send, soiled, taken_in, with_rib, with_session}
+use Rattle.cn_core.specs.Machine.{after_event, at_first, can, decided, put_choice, put_out, receive, send, with_dirty, taken_in, with_rib, with_session}
 use Rattle.cn_core.specs.Order.{owes_from}
 use Rattle.cn_core.specs.Owing.{ArePlacesOf, IsOwing, IsOwingAfter, IsOwingBut, IsOwingButFor, IsOwingDecided, IsOwingElsewhere, OwesNothingElse, differs, owes_for}
-use Rattle.cn_core.specs.State.{CoreState, is_session, offered, owed, owed_by, prefix_of, rib, session, wanted}
+use Rattle.cn_core.specs.State.{CoreState, is_session, offered_attributes, owed, owed_by, prefix_of, rib, session, wanted}
 use Rattle.cn_core.specs.Whole.{IsNowhere, IsPlaceOf, IsWhole, by_ends}
 use Rattle.std.proofs.lemmas.Bool.Decides.{nat_tests}
 use Rattle.cn_core.proofs.Access.{itself, rib_other, rib_past, rib_same}
@@ -82,9 +82,9 @@ still_past s b x out d same =
     ∙ sym (rib_past s d (omega (arith, out, at)))
 
 best_soiled : (s : CoreState) (b : DeviceId) (p : Cidr) (d : DeviceId)
-    → (rib (with_rib s b (soiled (rib s b) p)) d).best ≡ (rib s d).best
+    → (rib (with_rib s b (with_dirty (rib s b) p)) d).best ≡ (rib s d).best
 best_soiled s b p d =
-    let x = soiled (rib s b) p in
+    let x = with_dirty (rib s b) p in
     elim (device_tells d b) [
       | inr other ↦ ap (λ (y : Rib). y.best) (rib_other s b d x other)
       | inl same ↦ elim (cases_lt b.0 (length s.ribs)) [
@@ -97,13 +97,15 @@ best_soiled s b p d =
 
 receive_owes : (s : CoreState) (owing : List Bool) → IsOwing s owing
     → (a b : DeviceId) (m : Message) (rest : List Message)
-    → IsOwing (with_rib (with_session s a b (taken_in m rest)) b (soiled (rib s b) (prefix_of m)))
+    → IsOwing (with_rib (with_session s a b (taken_in m rest)) b (with_dirty (rib s b)
+    (prefix_of m)))
     owing
 unfolding with_session with_rib rib
 receive_owes s owing is a b m rest = record {
   many = is.many ∙ sym (count_first (is_session a b) (taken_in m rest) s.sessions);
   right = λ k x lt.
-      let t = with_rib (with_session s a b (taken_in m rest)) b (soiled (rib s b) (prefix_of m)) in
+      let t = with_rib (with_session s a b (taken_in m rest)) b (with_dirty (rib s b)
+      (prefix_of m)) in
       let f = taken_in m rest in
       let lt' : k < length s.sessions =
       omega (arith, lt, count_first (is_session a b) f s.sessions) in
@@ -163,7 +165,7 @@ decided_owes s owing is d p o inside =
           let mine : rib (with_rib s d x) u.from ≡ x =
           ap (rib (with_rib s d x)) at ∙ rib_same s d x inside in
           was
-          ∙ ap (offered s.net u.from u.to q)
+          ∙ ap (offered_attributes s.net u.from u.to q)
           (ap (λ i. fin.get (rib s i).best q) at ∙ sym (put_elsewhere (rib s d).best p o q other)
           ∙ sym (ap (λ (z : Rib). fin.get z.best q) mine));
     }

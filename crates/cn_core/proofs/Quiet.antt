@@ -31,7 +31,7 @@ use Rattle.cn_core.specs.declared.session.Session.{Session}
 use Rattle.cn_core.specs.Laws.{IsKept, QuietLaw, held_in}
 use Rattle.cn_core.specs.Machine.{came_at, route_with, state}
 use Rattle.cn_core.specs.Order.{IsQuiet}
-use Rattle.cn_core.specs.State.{CoreState, apply_all, attributes_of, empty_session, is_session, offered, owed_by, rib, session, wanted}
+use Rattle.cn_core.specs.State.{CoreState, apply_all, attributes_of, empty_session, is_session, offered_attributes, owed_by, rib, session, wanted}
 use Rattle.cn_core.proofs.Access.{ends_are, found_has}
 use Rattle.cn_core.proofs.Ends.{found_by_ends, joins_ends, linked_stands}
 use Rattle.cn_core.proofs.Kept.{run_holds}
@@ -52,8 +52,8 @@ offer_keeps net a b p held r e =
     (offer-gives net a b (route_of p o.source) r o.offered).prefix
 
 offered_back : (net : Network) (a b : DeviceId) (p : Cidr) (held : Option Choice)
-    → option_map (route_with p) (offered net a b p held) ≡ offer_of net a b p held
-unfolding offered
+    → option_map (route_with p) (offered_attributes net a b p held) ≡ offer_of net a b p held
+unfolding offered_attributes
 offered_back net a b p held = round_trip p (offer_of net a b p held) (offer_keeps net a b p held)
 
 -- ---- nothing is offered where there is no session
@@ -112,7 +112,7 @@ came_is_offered r s k valid no_mail none_owed a d p m =
           e in
           let ends = ends_are a d x transit.1 in
           let arrived : x.came ≡ x.sent = ap (apply_all x.came) (sym empty.0) ∙ transit.0 in
-          let sent : fin.get x.sent p ≡ offered o.net a d p (held_in s a p) =
+          let sent : fin.get x.sent p ≡ offered_attributes o.net a d p (held_in s a p) =
           owes_nothing s.net x.from x.to x.sent (rib s x.from).best nothing.0 p
           ∙ (λ i. wanted (k.net i) (ends.0 i) (ends.1 i) (rib s (ends.0 i)).best p) in
           ap (λ n. option_map (route_with p) (fin.get n p)) arrived

@@ -43,13 +43,13 @@ abbrev pub taken_in : Message → List Message → Session → Session
 taken_in m rest x =
     record { from = x.from; to = x.to; sent = x.sent; mail = rest; came = apply x.came m }
 
-abbrev pub soiled : Rib → Cidr → Rib
-soiled x p = record { best = x.best; dirty = set.insert x.dirty p }
+abbrev pub with_dirty : Rib → Cidr → Rib
+with_dirty x p = record { best = x.best; dirty = set.insert x.dirty p }
 
 abbrev pub receive : CoreState → DeviceId → DeviceId → List Message → CoreState
 receive s a b [] = s
 receive s a b (m ∷ rest) =
-    with_rib (with_session s a b (taken_in m rest)) b (soiled (rib s b) (prefix_of m))
+    with_rib (with_session s a b (taken_in m rest)) b (with_dirty (rib s b) (prefix_of m))
 
 -- ---- decide: the device holds the best of its candidates for the prefix, which is clean (RFC
 -- 4271, 9.1.2)

@@ -2,7 +2,7 @@
 -- message nothing happens.
 use Rattle.std.specs.Prelude.{List, [], ◌∷◌, Option, Some, None}
 use Rattle.cn_base.specs.Cidr.{Cidr}
-use Rattle.cn_core.specs.Machine.{put_out, soiled, taken_in}
+use Rattle.cn_core.specs.Machine.{put_out, with_dirty, taken_in}
 use Rattle.cn_core.specs.State.{prefix_of}
 use Rattle.cn_core.specs.declared.message.Message.{Message}
 use Rattle.cn_core.specs.declared.session.Rib.{Rib}
@@ -21,9 +21,9 @@ abbrev pub received : Session → Session
 received x = received_of x.mail x
 
 -- the prefix of the first message is dirty
-abbrev pub soiled_by : List Message → Rib → Rib
-soiled_by [] x = x
-soiled_by (m ∷ rest) x = soiled x (prefix_of m)
+abbrev pub with_all_dirty : List Message → Rib → Rib
+with_all_dirty [] x = x
+with_all_dirty (m ∷ rest) x = with_dirty x (prefix_of m)
 
 abbrev pub put_out_if : Option Message → Session → Session
 put_out_if None x = x

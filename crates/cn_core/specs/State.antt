@@ -67,13 +67,14 @@ abbrev pub attributes_of : Route → Attributes
 attributes_of r = record { path = r.path; origin = r.origin }
 
 -- what a offers to b for p of a choice, or of none
-unfoldable pub offered : Network → DeviceId → DeviceId → Cidr → Option Choice → Option Attributes
-offered net a b p held = option_map attributes_of (offer_of net a b p held)
+unfoldable pub offered_attributes : Network → DeviceId → DeviceId → Cidr → Option Choice
+    → Option Attributes
+offered_attributes net a b p held = option_map attributes_of (offer_of net a b p held)
 
 -- the same, where `best` is what a holds
 abbrev pub wanted : Network → DeviceId → DeviceId → FinMap prefix_cmp Choice → Cidr
     → Option Attributes
-wanted net a b best p = offered net a b p (fin.get best p)
+wanted net a b best p = offered_attributes net a b p (fin.get best p)
 
 abbrev pub same_numbers : List Asn → List Asn → Bool
 same_numbers [] [] = true
@@ -99,7 +100,8 @@ withdrawal net a b sent best = find (λ e. is_none (wanted net a b best e.0)) (f
 abbrev pub announcement : Network → DeviceId → DeviceId → FinMap prefix_cmp Attributes
     → FinMap prefix_cmp Choice → Option (Cidr × Choice)
 announcement net a b sent best =
-    find (λ e. is_news (fin.get sent e.0) (offered net a b e.0 (Some e.1))) (fin.entries best)
+    find (λ e. is_news (fin.get sent e.0) (offered_attributes net a b e.0 (Some e.1)))
+    (fin.entries best)
 
 -- The message that is owed: the withdrawal of the least prefix whose withdrawal is owed, and where
 -- no withdrawal is, the announcement of the least owed prefix. `laws::owed_law` says that it is
@@ -107,7 +109,8 @@ announcement net a b sent best =
 abbrev pub owed_of : Network → DeviceId → DeviceId → Option (Cidr × Attributes)
     → Option (Cidr × Choice) → Option Message
 owed_of net a b (Some e) more = Some (Withdraw e.0)
-owed_of net a b None (Some e) = option_map (Announce e.0) (offered net a b e.0 (Some e.1))
+owed_of net a b None (Some e) = option_map (Announce e.0)
+    (offered_attributes net a b e.0 (Some e.1))
 owed_of net a b None None = None
 
 unfoldable pub owed : Network → DeviceId → DeviceId → FinMap prefix_cmp Attributes

@@ -6,7 +6,7 @@ ghost use Rattle.std.specs.List.{find};
 ghost use Rattle.cn_net.specs.Network.{IsDevice};
 ghost use Rattle.cn_core.specs.Owing.{differs};
 ghost use Rattle.cn_core.specs.Rows.{pair_of};
-ghost use Rattle.cn_core.specs.State.{announcement, is_news, offered, owed, wanted, withdrawal};
+ghost use Rattle.cn_core.specs.State.{announcement, is_news, offered_attributes, owed, wanted, withdrawal};
 
 use crate::message::Message;
 use crate::session::Session;
@@ -48,7 +48,7 @@ fn is_news(
     requires to { IsDevice net.now to }
     ensures { result
         ≡ is_news (option_copied sent.entry)
-        (offered net.now from to prefix.now (Some choice.now)) }
+        (offered_attributes net.now from to prefix.now (Some choice.now)) }
 {
     match sent {
         Some(sent) => {
@@ -108,7 +108,8 @@ fn first_announced<'a>(
     requires to { IsDevice net.now session.now.to }
     ensures { option_copied result
         ≡ find (λ r. is_news (fin.get session.now.sent r.prefix)
-        (offered net.now session.now.from session.now.to r.prefix (Some r.value))) best.now }
+        (offered_attributes net.now session.now.from session.now.to r.prefix (Some r.value)))
+        best.now }
 {
     best.iter().find(|row| {
         let sent = session.sent.get(&row.prefix);
@@ -174,7 +175,7 @@ fn announced(
     requires to { IsDevice net.now to }
     ensures { IfOk result (λ o. o
         ≡ option_map (Message.Announce prefix.now)
-        (offered net.now from to prefix.now (Some choice.now))) }
+        (offered_attributes net.now from to prefix.now (Some choice.now))) }
 {
     match net.offer_path(alloc, from, to, prefix, &choice.path, choice.origin)? {
         Some(offer) => {

@@ -1,8 +1,8 @@
 //! What a session and a device keep, and what an event does to them.
 
 ghost use Rattle.std.specs.Prelude.{◌≡◌, ◌<◌, OnOk, OnErr, length};
-ghost use Rattle.cn_core.specs.Parts.{first_prefix, put_out_if, received, soiled_by};
-ghost use Rattle.cn_core.specs.Machine.{decided, soiled};
+ghost use Rattle.cn_core.specs.Parts.{first_prefix, put_out_if, received, with_all_dirty};
+ghost use Rattle.cn_core.specs.Machine.{decided, with_dirty};
 ghost use Rattle.cn_core.specs.State.{apply, prefix_of};
 
 use crate::message::Message;
@@ -119,7 +119,7 @@ impl Rib {
 pub fn receive(alloc: Global, session: &mut Session, rib: &mut Rib) -> Result<(), AllocError>
     requires { 0 < length session.old.mail }
     ensures session { OnOk result (session.new ≡ received session.old) }
-    ensures rib { OnOk result (rib.new ≡ soiled_by session.old.mail rib.old) }
+    ensures rib { OnOk result (rib.new ≡ with_all_dirty session.old.mail rib.old) }
     ensures err_session { OnErr result (session.new ≡ session.old) }
     ensures err_rib { OnErr result (rib.new ≡ rib.old) }
 {
@@ -137,7 +137,7 @@ fn receive_at(
     prefix: &Prefix,
 ) -> Result<(), AllocError>
     ensures session { OnOk result (session.new ≡ received session.old) }
-    ensures rib { OnOk result (rib.new ≡ soiled rib.old prefix.now) }
+    ensures rib { OnOk result (rib.new ≡ with_dirty rib.old prefix.now) }
     ensures err_session { OnErr result (session.new ≡ session.old) }
     ensures err_rib { OnErr result (rib.new ≡ rib.old) }
 {

@@ -1,7 +1,7 @@
 -- The first fault of a list, one element after another, and what an answer tells of it.
 use Rattle.std.proofs.Common.{◌≡◌, ℕ, ◌+◌, ◌<◌, ◌≤◌, Bool, true, false, List, [], ◌∷◌, ◌++◌, length, get_or, take, drop, refl, sym, ◌∙◌, ap, subst, Option, Some, None}
 use Rattle.std.proofs.lemmas.List.{append-nil, append_assoc, drop_all, drop_more, take_more}
-use Rattle.cn_net.specs.Faults.{◌or_else◌, IsFirstFault, fault_if, first_from, first_in}
+use Rattle.cn_net.specs.Faults.{◌or_else◌, IsFirstNetFault, fault_if, first_from, first_in}
 use Rattle.cn_net.specs.declared.fault.NetAnswer.{NetAnswer}
 use Rattle.cn_net.specs.declared.fault.NetAnswer.TheVariants.{Fault, Memory}
 use Rattle.cn_net.specs.declared.fault.NetFault.{NetFault}
@@ -92,21 +92,22 @@ faultless fault P step before (x ∷ xs) p =
 
 -- the first fault of a step is the first of all steps
 pub told : (x y : Option NetFault) (e : NetAnswer) → ((f : NetFault) → x ≡ Some f → y ≡ Some f)
-    → IsFirstFault x e → IsFirstFault y e
+    → IsFirstNetFault x e → IsFirstNetFault y e
 told x y (Fault f) turn so = turn f so
 told x y Memory turn so = tt
 
 -- what is told of one is told of what equals it
-pub told_as : (x y : Option NetFault) (e : NetAnswer) → x ≡ y → IsFirstFault x e → IsFirstFault y e
-told_as x y e is so = subst (λ o. IsFirstFault o e) is so
+pub told_as : (x y : Option NetFault) (e : NetAnswer) → x ≡ y → IsFirstNetFault x e
+    → IsFirstNetFault y e
+told_as x y e is so = subst (λ o. IsFirstNetFault o e) is so
 
 -- the first fault of a step is the first of this step and the later ones
-pub sooner : (x y : Option NetFault) (e : NetAnswer) → IsFirstFault x e
-    → IsFirstFault (x or_else y) e
+pub sooner : (x y : Option NetFault) (e : NetAnswer) → IsFirstNetFault x e
+    → IsFirstNetFault (x or_else y) e
 sooner x y (Fault f) so = is_first x y f so
 sooner x y Memory so = tt
 
 -- and where a step finds none, the first of the later ones is the first
-pub later : (x y : Option NetFault) (e : NetAnswer) → x ≡ None → IsFirstFault y e
-    → IsFirstFault (x or_else y) e
+pub later : (x y : Option NetFault) (e : NetAnswer) → x ≡ None → IsFirstNetFault y e
+    → IsFirstNetFault (x or_else y) e
 later x y e none so = told_as y (x or_else y) e (sym (is_second x y none)) so

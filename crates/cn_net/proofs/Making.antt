@@ -9,7 +9,7 @@ use Rattle.std.proofs.lemmas.List.Folds.{flat_map-map}
 use Rattle.std.proofs.lemmas.Simd.{map-map}
 use Rattle.cn_base.specs.Cidr.{same_prefix}
 use Rattle.cn_net.specs.Drafted.{IfFault, StandsForNone, StandsForOne, device_draft, draft_of, link_draft, peer_draft}
-use Rattle.cn_net.specs.Faults.{◌or_else◌, IsFirstFault, TellsFirst, device_fault, fault_of, first_in, link_fault, many_fault, parts_fault, peers_fault, prefixes_fault}
+use Rattle.cn_net.specs.Faults.{◌or_else◌, IsFirstNetFault, TellsFirst, device_fault, fault_of, first_in, link_fault, many_fault, parts_fault, peers_fault, prefixes_fault}
 use Rattle.cn_net.specs.Kept.{names_of}
 use Rattle.cn_net.specs.Network.{Network, IsDevice, originated, same_device}
 use Rattle.cn_net.specs.Numbered.{device_made, link_made, peer_made, written_names}
@@ -88,37 +88,38 @@ faultless_from draft none =
     }
 
 module _ (draft : Draft) (e : NetAnswer) where
-  pub parts_told : IsFirstFault (parts_of draft) e → IsFirstFault (fault_of draft) e
+  pub parts_told : IsFirstNetFault (parts_of draft) e → IsFirstNetFault (fault_of draft) e
   unfolding fault_of
   parts_told so = sooner (parts_of draft) (from_devices draft) e so
 
   module _ (parts : parts_of draft ≡ None) where
-    from_devices_told : IsFirstFault (from_devices draft) e → IsFirstFault (fault_of draft) e
+    from_devices_told : IsFirstNetFault (from_devices draft) e → IsFirstNetFault (fault_of draft) e
     unfolding fault_of
     from_devices_told so = later (parts_of draft) (from_devices draft) e parts so
 
-    pub devices_told : IsFirstFault (devices_of draft) e → IsFirstFault (fault_of draft) e
+    pub devices_told : IsFirstNetFault (devices_of draft) e → IsFirstNetFault (fault_of draft) e
     devices_told so = from_devices_told (sooner (devices_of draft) (from_prefixes draft) e so)
 
     module _ (devices : devices_of draft ≡ None) where
-      from_prefixes_told : IsFirstFault (from_prefixes draft) e → IsFirstFault (fault_of draft) e
+      from_prefixes_told : IsFirstNetFault (from_prefixes draft) e
+          → IsFirstNetFault (fault_of draft) e
       from_prefixes_told so =
           from_devices_told (later (devices_of draft) (from_prefixes draft) e devices so)
 
-      pub prefixes_told : IsFirstFault (prefixes_of draft) e → IsFirstFault (fault_of draft) e
+      pub prefixes_told : IsFirstNetFault (prefixes_of draft) e → IsFirstNetFault (fault_of draft) e
       prefixes_told so =
           from_prefixes_told (sooner (prefixes_of draft) (from_peers draft) e so)
 
       module _ (prefixes : prefixes_of draft ≡ None) where
-        from_peers_told : IsFirstFault (from_peers draft) e → IsFirstFault (fault_of draft) e
+        from_peers_told : IsFirstNetFault (from_peers draft) e → IsFirstNetFault (fault_of draft) e
         from_peers_told so =
             from_prefixes_told (later (prefixes_of draft) (from_peers draft) e prefixes so)
 
-        pub peers_told : IsFirstFault (peers_of draft) e → IsFirstFault (fault_of draft) e
+        pub peers_told : IsFirstNetFault (peers_of draft) e → IsFirstNetFault (fault_of draft) e
         peers_told so = from_peers_told (sooner (peers_of draft) (links_of draft) e so)
 
-        pub links_told : peers_of draft ≡ None → IsFirstFault (links_of draft) e
-            → IsFirstFault (fault_of draft) e
+        pub links_told : peers_of draft ≡ None → IsFirstNetFault (links_of draft) e
+            → IsFirstNetFault (fault_of draft) e
         links_told peers so = from_peers_told (later (peers_of draft) (links_of draft) e peers so)
 
 -- ---- where no step finds a fault, the network that is made is valid and reads as the draft
@@ -300,7 +301,7 @@ pub faultless_where : (draft : Draft) → StandsForOne draft → fault_of draft 
 faultless_where draft (net, valid, reads) =
     ap fault_of (sym reads) ∙ no_fault (draft_of net) (faultless_again net valid)
 
-stands_none : (draft : Draft) (e : NetAnswer) → IsFirstFault (fault_of draft) e
+stands_none : (draft : Draft) (e : NetAnswer) → IsFirstNetFault (fault_of draft) e
     → IfFault (StandsForNone draft) e
 stands_none draft (Fault f) so = λ net valid reads.
     let none : fault_of draft ≡ None = faultless_where draft (net, valid, reads) in

@@ -135,10 +135,10 @@ fault_of draft =
     or_else first_in (link_fault (map (device_made names) draft.devices)) draft.links
 
 -- a fault in an answer is the first; want of memory tells nothing of it
-abbrev pub IsFirstFault : Option NetFault → NetAnswer → Type 0
-IsFirstFault first (Fault f) = first ≡ Some f
-IsFirstFault first Memory = Unit {0}
+abbrev pub IsFirstNetFault : Option NetFault → NetAnswer → Type 0
+IsFirstNetFault first (Fault f) = first ≡ Some f
+IsFirstNetFault first Memory = Unit {0}
 
 -- what is answered tells of the first fault: Ok that there is none, a fault that it is the first
 abbrev pub TellsFirst : {T : Type 0} → Option NetFault → Result T NetAnswer → Type 0
-TellsFirst first answer = MatchResult answer (λ _. first ≡ None) (IsFirstFault first)
+TellsFirst first answer = MatchResult answer (λ _. first ≡ None) (IsFirstNetFault first)

@@ -9,7 +9,7 @@ use Rattle.cn_base.specs.declared.ids.Asn.{Asn}
 use Rattle.cn_base.specs.declared.ids.Origin.{Origin}
 use Rattle.cn_wire.specs.declared.update.Attrs.{Attrs}
 use Rattle.cn_wire.specs.declared.update.Update.{Update}
-use Rattle.cn_wire.specs.Sizes.{fitting}
+use Rattle.cn_wire.specs.Sizes.{longest_prefix_within}
 use Rattle.cn_wire.specs.Spelling.{attribute_of_path}
 use Rattle.cn_wire.specs.Writing.{spelled_prefixes, spelled_attribute, spelled_attrs, spelling, fits}
 use Rattle.cn_wire.proofs.Again.{message_size}
@@ -17,7 +17,7 @@ use Rattle.cn_wire.proofs.Written.{path_size_none, path_size_short, path_size_lo
 use Rattle.cn_pack.specs.declared.owed.Owed.{Owed}
 use Rattle.cn_pack.specs.Packing.{withdrawals, wants, likewise, withdrawing, announcing, IsFullest, IsAnnounced, IsPackedBy, IsPacked, AreShort, announced_by, packed_by, packed}
 use Rattle.cn_pack.proofs.Same.{wants_is_equal}
-use Rattle.cn_pack.proofs.Room.{fitting_is_longest, first_fits}
+use Rattle.cn_pack.proofs.Room.{longest_prefix_within-IsLongest, first_fits}
 
 same_leb : (a b c d : ℕ) → (a ≤ b → c ≤ d) → (b < a → d < c) → leb a b ≡ leb c d
 same_leb a b c d f g =
@@ -51,9 +51,9 @@ announcing_fits a ps small =
 
 fullest_from : (saying : List Cidr → Update) (room : ℕ) (ps : List Cidr)
     → ((qs : List Cidr) → fits (saying qs) ≡ leb (length (spelled_prefixes qs)) room)
-    → IsFullest saying ps (saying (fitting room ps))
+    → IsFullest saying ps (saying (longest_prefix_within room ps))
 fullest_from saying room ps tests =
-    let h = fitting_is_longest room ps in
+    let h = longest_prefix_within-IsLongest room ps in
     record {
       count = h.count;
       within = h.within;
@@ -171,12 +171,12 @@ announced_says None x o os next_hop is e small = absurd cc
 announced_says (Some w) x o os next_hop is e small =
     let some = first_likewise w o os is in
     let f : 0
-    < length (fitting (4073 - length (spelled_attrs (Some (attrs_for w next_hop))))
+    < length (longest_prefix_within (4073 - length (spelled_attrs (Some (attrs_for w next_hop))))
     (likewise w.0 w.1 (o ∷ os))) =
     first_fits (4073 - length (spelled_attrs (Some (attrs_for w next_hop))))
     (likewise w.0 w.1 (o ∷ os)) (omega arith) some in
     add_none (length
-    (fitting (4073 - length (spelled_attrs (Some (attrs_for w next_hop))))
+    (longest_prefix_within (4073 - length (spelled_attrs (Some (attrs_for w next_hop))))
     (likewise w.0 w.1 (o ∷ os)))) f
 
 packed_by_says : (ps : List Cidr) (owed : List Owed) (next_hop : ℕ) → withdrawals owed ≡ ps
@@ -269,8 +269,8 @@ pub record IsMessage (owed : List Owed) (next_hop : ℕ) (u : Update) : Type 0 w
   pub says : 0 < said u
 
 withdrawn_by : (ps : List Cidr) (owed : List Owed) (next_hop : ℕ) → 0 < length ps
-    → IsPackedBy ps owed next_hop (withdrawing (fitting 4073 ps))
-    × (withdrawing (fitting 4073 ps) ≡ packed_by ps owed next_hop)
+    → IsPackedBy ps owed next_hop (withdrawing (longest_prefix_within 4073 ps))
+    × (withdrawing (longest_prefix_within 4073 ps) ≡ packed_by ps owed next_hop)
 withdrawn_by [] owed next_hop lt = absurd (omega arith)
 withdrawn_by (p ∷ ps) owed next_hop lt =
     (fullest_from withdrawing 4073 (p ∷ ps) withdrawing_fits, refl)
@@ -308,7 +308,7 @@ no_withdrawal (o ∷ os) e = no_withdrawal_by (is_none o.wanted) o os e (no_with
 -- where a withdrawal is owed
 pub withdrawn_is : (owed : List Owed) (next_hop : ℕ)
     → list_any (λ (x : Owed). is_none x.wanted) owed ≡ true
-    → IsMessage owed next_hop (withdrawing (fitting 4073 (withdrawals owed)))
+    → IsMessage owed next_hop (withdrawing (longest_prefix_within 4073 (withdrawals owed)))
 withdrawn_is owed next_hop some =
     let lt = some_withdrawal owed some in
     let h = withdrawn_by (withdrawals owed) owed next_hop lt in
@@ -316,7 +316,8 @@ withdrawn_is owed next_hop some =
     record {
       rule = h.0;
       exact = h.1;
-      held = packed_fits owed next_hop (withdrawing (fitting 4073 (withdrawals owed))) h.0;
+      held = packed_fits owed next_hop (withdrawing (longest_prefix_within 4073 (withdrawals owed)))
+          h.0;
       says = omega arith;
     }
 

@@ -5,7 +5,7 @@ use Rattle.std.proofs.lemmas.List.{length-take}
 use Rattle.std.proofs.lemmas.List.Concat.{flat_map-cons}
 use Rattle.cn_base.specs.Cidr.{Cidr}
 use Rattle.cn_wire.specs.Numbers.{octets_for, four_octets}
-use Rattle.cn_wire.specs.Sizes.{fitting}
+use Rattle.cn_wire.specs.Sizes.{longest_prefix_within}
 use Rattle.cn_wire.specs.Writing.{spelled_prefix, spelled_prefixes}
 
 flat_prefixes : (p : Cidr) (ps : List Cidr)
@@ -46,8 +46,9 @@ too_much room p ps (suc j) lt above =
 longest_by : (room : ℕ) (p : Cidr) (ps : List Cidr) (b : Bool)
     → leb (length (spelled_prefix p)) room ≡ b
     → IsLongest (room - length (spelled_prefix p)) ps
-    (fitting (room - length (spelled_prefix p)) ps)
-    → IsLongest room (p ∷ ps) (cond b (p ∷ fitting (room - length (spelled_prefix p)) ps) [])
+    (longest_prefix_within (room - length (spelled_prefix p)) ps)
+    → IsLongest room (p ∷ ps) (cond b
+    (p ∷ longest_prefix_within (room - length (spelled_prefix p)) ps) [])
 longest_by room p ps true e h =
     let le = leb-true (length (spelled_prefix p)) room e in
     record {
@@ -68,17 +69,18 @@ longest_by room p ps false e h =
     }
 
 -- the prefixes that fit are the longest front that the room holds
-pub fitting_is_longest : (room : ℕ) (ps : List Cidr) → IsLongest room ps (fitting room ps)
-fitting_is_longest room [] = record {
+pub longest_prefix_within-IsLongest : (room : ℕ) (ps : List Cidr)
+    → IsLongest room ps (longest_prefix_within room ps)
+longest_prefix_within-IsLongest room [] = record {
   count = 0;
   within = omega arith;
   front = refl;
   held = omega arith;
   more = λ j lt few. absurd (omega arith);
 }
-fitting_is_longest room (p ∷ ps) =
+longest_prefix_within-IsLongest room (p ∷ ps) =
     longest_by room p ps (leb (length (spelled_prefix p)) room) refl
-    (fitting_is_longest (room - length (spelled_prefix p)) ps)
+    (longest_prefix_within-IsLongest (room - length (spelled_prefix p)) ps)
 
 -- a prefix takes at most five octets
 prefix_few : (p : Cidr) → length (spelled_prefix p) ≤ 5
@@ -86,7 +88,7 @@ prefix_few p = omega (arith, length-take (octets_for p.len) (four_octets p.bits)
 
 first_fits_by : (room : ℕ) (p : Cidr) (ps : List Cidr) (b : Bool)
     → leb (length (spelled_prefix p)) room ≡ b → 5 ≤ room
-    → 0 < length (cond b (p ∷ fitting (room - length (spelled_prefix p)) ps) [])
+    → 0 < length (cond b (p ∷ longest_prefix_within (room - length (spelled_prefix p)) ps) [])
 first_fits_by room p ps true e le = omega arith
 first_fits_by room p ps false e le =
     let lt = leb-false (length (spelled_prefix p)) room e in
@@ -95,7 +97,7 @@ first_fits_by room p ps false e le =
 
 -- where there is a prefix, the room holds one
 pub first_fits : (room : ℕ) (ps : List Cidr) → 5 ≤ room → 0 < length ps
-    → 0 < length (fitting room ps)
+    → 0 < length (longest_prefix_within room ps)
 first_fits room [] le lt = absurd (omega arith)
 first_fits room (p ∷ ps) le lt =
     first_fits_by room p ps (leb (length (spelled_prefix p)) room) refl le

@@ -9,7 +9,7 @@ use Rattle.cn_base.specs.Rank.{origin_code}
 use Rattle.cn_base.specs.Table.{prefix_cmp}
 use Rattle.cn_base.specs.declared.ids.Asn.{Asn}
 use Rattle.cn_base.specs.declared.ids.Origin.{Origin}
-use Rattle.cn_wire.specs.Sizes.{fitting}
+use Rattle.cn_wire.specs.Sizes.{longest_prefix_within}
 use Rattle.cn_wire.specs.Writing.{fits, spelled_attrs}
 use Rattle.cn_wire.specs.declared.update.Attrs.{Attrs}
 use Rattle.cn_wire.specs.declared.update.Update.{Update}
@@ -87,12 +87,12 @@ abbrev pub announced_by : Option (List Asn × Origin) → List Owed → ℕ → 
 announced_by None owed next_hop = nothing
 announced_by (Some w) owed next_hop =
     announcing (record { origin = w.1; path = w.0; next_hop = next_hop })
-    (fitting (4073
+    (longest_prefix_within (4073
     - length (spelled_attrs (Some (record { origin = w.1; path = w.0; next_hop = next_hop }))))
     (likewise w.0 w.1 owed))
 
 abbrev pub packed_by : List Cidr → List Owed → ℕ → Update
-packed_by (p ∷ ps) owed next_hop = withdrawing (fitting 4073 (p ∷ ps))
+packed_by (p ∷ ps) owed next_hop = withdrawing (longest_prefix_within 4073 (p ∷ ps))
 packed_by [] (o ∷ os) next_hop = announced_by o.wanted (o ∷ os) next_hop
 packed_by [] [] next_hop = nothing
 

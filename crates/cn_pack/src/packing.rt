@@ -3,7 +3,7 @@
 ghost use Rattle.std.specs.Prelude.{◌≡◌, ◌<◌, ◌≤◌, ◌+◌, true, length, is_none, IfOk, IfSome, Some};
 ghost use Rattle.std.specs.List.{list_any};
 ghost use Rattle.cn_pack.specs.Packing.{Ascends, IsPacked, packed, withdrawals, likewise, announced_by};
-ghost use Rattle.cn_wire.specs.Sizes.{fitting};
+ghost use Rattle.cn_wire.specs.Sizes.{longest_prefix_within};
 ghost use Rattle.cn_wire.specs.Writing.{fits, spelled_attrs};
 
 use crate::owed::Owed;
@@ -23,7 +23,7 @@ fn withdraws(owed: &[Owed]) -> bool
 
 // The prefixes that are to be withdrawn, as many of the first as a message holds.
 fn withdrawn_of(alloc: Global, owed: &[Owed]) -> Result<Vec<Prefix>, AllocError>
-    ensures { IfOk result (λ v. v.items ≡ fitting 4073 (withdrawals owed.now)) }
+    ensures { IfOk result (λ v. v.items ≡ longest_prefix_within 4073 (withdrawals owed.now)) }
 {
     let mut withdrawn = Vec::new(alloc);
     let mut room = ROOM;
@@ -49,7 +49,8 @@ fn announced_of(
     origin: Origin,
     owed: &[Owed],
 ) -> Result<Vec<Prefix>, AllocError>
-    ensures { IfOk result (λ v. v.items ≡ fitting room (likewise path.now origin owed.now)) }
+    ensures { IfOk result (λ v. v.items ≡ longest_prefix_within room
+        (likewise path.now origin owed.now)) }
 {
     let mut announced = Vec::new(alloc);
     let mut left = room;

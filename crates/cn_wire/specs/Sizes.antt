@@ -11,8 +11,8 @@ room_after room (p ∷ ps) =
     else None
 
 -- as many of the first prefixes as the room holds; the first that it doesn't hold ends them
-abbrev pub fitting : ℕ → List Cidr → List Cidr
-fitting room [] = []
-fitting room (p ∷ ps) =
+abbrev pub longest_prefix_within : ℕ → List Cidr → List Cidr
+longest_prefix_within room [] = []
+longest_prefix_within room (p ∷ ps) =
     if nat_le (length (spelled_prefix p)) room
-    then p ∷ fitting (room - length (spelled_prefix p)) ps else []
+    then p ∷ longest_prefix_within (room - length (spelled_prefix p)) ps else []

@@ -1,7 +1,7 @@
 use Rattle.std.proofs.Common.{sym, ap, ◌∙◌, Some}
 use Rattle.std.specs.Prelude.{option_copied}
 use Rattle.cn_core.proofs.Offers.{news_none, news_some, news_unsent}
-use Rattle.cn_core.specs.State.{is_news, offered}
+use Rattle.cn_core.specs.State.{is_news, offered_attributes}
 use Rattle.cn_core.proofs.owed.is_news.Goals as goal
 
 pub returns-then-has_offer : goal.returns-then-has_offer
@@ -10,7 +10,8 @@ returns-then-has_offer c =
     c.in-Some.sent.now c.is_offer.result
     (sym (c.has_offer.ensures c.args.choice.now.origin) ∙ c.if-has_offer.true) c.is_offer.ensures
     ∙ ap (λ o. is_news (option_copied o)
-    (offered c.args.net.now c.args.from c.args.to c.args.prefix.now (Some c.args.choice.now)))
+    (offered_attributes c.args.net.now c.args.from c.args.to c.args.prefix.now
+    (Some c.args.choice.now)))
     (sym c.in-Some.is)
 
 pub returns-else-has_offer : goal.returns-else-has_offer
@@ -25,5 +26,6 @@ returns-in-None c =
     c.has_offer-in-None.ensures c.args.choice.now.origin
     ∙ news_unsent c.args.net.now c.args.from c.args.to c.args.prefix.now c.args.choice.now
     ∙ ap (λ o. is_news (option_copied o)
-    (offered c.args.net.now c.args.from c.args.to c.args.prefix.now (Some c.args.choice.now)))
+    (offered_attributes c.args.net.now c.args.from c.args.to c.args.prefix.now
+    (Some c.args.choice.now)))
     (sym c.in-None.is)
