@@ -1,10 +1,10 @@
 //! The core: its state is that of its own history.
 
-ghost use Rattle.std.specs.Prelude.{◌≡◌, [], IfErr, IfOk, OnErr, OnOk};
+ghost use Rattle.std.specs.Prelude.{◌≡◌, ◌↔◌, [], IfErr, IfOk, None, OnErr, OnOk};
 ghost use Rattle.cn_core.specs.Laws.{IsKept};
 ghost use Rattle.cn_core.specs.Log.{CanStep, IsRefusal, Log as LogValue, now, then};
 ghost use Rattle.cn_core.specs.Machine.{IsRun};
-ghost use Rattle.cn_core.specs.Order.{first_event, standing};
+ghost use Rattle.cn_core.specs.Order.{IsQuiet, first_event, standing};
 ghost use Rattle.cn_core.specs.Pulled.{IsPulled};
 
 use crate::engine::Engine;
@@ -127,6 +127,7 @@ impl Core {
     /// no memory.
     pub fn first(&self) -> Option<Event>
         ensures event { result ≡ first_event (now self.now) }
+        ensures none { (result ≡ None) ↔ IsQuiet (now self.now) }
         ensures kept { IsKept self.now.recorded (now self.now) }
     {
         self.engine.first(&self.owing)

@@ -13,6 +13,7 @@ ghost use Rattle.cn_rib.specs.PrefixSet as set;
 use crate::engine::Engine;
 use crate::session::{Rib, Session};
 use cn_base::{Choice, DeviceId, Prefix};
+use cn_lists::part_at;
 use cn_mail::Mailbox;
 use cn_net::{Certified, DeviceSet, Net, Own};
 use cn_record::{Recorded, Row};
@@ -117,10 +118,7 @@ fn rows_of(rows: &[Row], device: DeviceId) -> &[Row]
     requires { AscendsByPair rows.now }
     ensures { result.now ≡ rows_of rows.now device }
 {
-    let end = rows.partition_point(|row| row.device <= device);
-    let front = &rows[..end];
-    let start = front.partition_point(|row| row.device < device);
-    &front[start..]
+    part_at(rows, &device, |row| row.device)
 }
 
 // The choice is held too, if there is one.

@@ -4,6 +4,7 @@ use Rattle.cn_core.specs.Log.{Log}
 use Rattle.cn_core.specs.Machine.{state}
 use Rattle.cn_core.specs.Order.{first_event}
 use Rattle.cn_core.specs.Owing.{IsOwing}
+use Rattle.cn_core.proofs.First.{first_none}
 use Rattle.cn_core.proofs.Logged.{kept_of, whole_at}
 use Rattle.cn_core.proofs.emulator.Core.first.Goals as goal
 
@@ -26,3 +27,13 @@ returns-clause-kept c =
     (subst (IsKept c.self.inside.recorded.value) c.self.invariant.0.tables
     (kept_of c.self.inside.recorded.value c.self.inside.history.items c.self.inside.engine
     c.self.invariant.0))
+
+pub returns-clause-none : goal.returns-clause-none
+returns-clause-none c =
+    let here = returns-clause-event c in
+    let kept = returns-clause-kept c in
+    let log = c.args.self.now in
+    let quiet = first_none log.recorded (state log.recorded log.history) kept in (
+      λ none. quiet.0 (sym here ∙ none),
+      λ q. here ∙ quiet.1 q,
+    )
