@@ -10,9 +10,12 @@ pub mod Drafts
 pub mod Faultless
 pub mod Finding
 pub mod First
+pub mod Indexing
+pub mod Inside
 pub mod Keys
 pub mod Known
 pub mod Linked
+pub mod Lookups
 pub mod Making
 pub mod Members
 pub mod Offering
@@ -29,5 +32,6 @@ pub mod Restricted
 pub mod Rounds
 pub mod SameEnds
 pub mod Seen
+pub mod SessionOrder
 pub mod States
 pub mod Steps

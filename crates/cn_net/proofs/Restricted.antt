@@ -62,7 +62,7 @@ without_origins_at s (d ∷ ds) n (suc k) =
     without_origins_at s ds (n + 1) k
     ∙ ap (λ z. option_map (without_origins (s (record { 0 = z }))) (slice_get ds k)) e
 
-device_of_restricted : (net : Network) (s : DeviceId → Bool) (d : DeviceId)
+pub device_of_restricted : (net : Network) (s : DeviceId → Bool) (d : DeviceId)
     → device_of (restricted net s) d ≡ option_map (without_origins (s d)) (device_of net d)
 unfolding restricted
 device_of_restricted net s d =

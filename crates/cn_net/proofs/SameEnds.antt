@@ -1,14 +1,16 @@
 -- Networks that differ in nothing but in which of their links are up: what is linked in one is
 -- linked in the other, and so islands and the certificate are alike.
 use Rattle.std.proofs.Common.{◌≡◌, ◌&&◌, ◌||◌, Bool, true, false, cond, List, [], ◌∷◌, map, Option, Some, option_map, is_some, find, refl, sym, ap, subst, ◌∙◌}
+use Rattle.std.specs.List.{filter, flat_map, range_with_len}
 use Rattle.cn_base.specs.declared.ids.DeviceId.{DeviceId}
 use Rattle.cn_net.specs.declared.device.Device.{Device}
 use Rattle.cn_net.specs.declared.device.Link.{Link}
-use Rattle.cn_net.specs.Alike.{DifferInUp, HaveBoundariesAlike, ends_of}
+use Rattle.cn_net.specs.Alike.{DifferInUp, HaveBoundariesAlike, HaveSameEnds, ends_of}
 use Rattle.cn_net.specs.Certificate.{IsCertified, IsEmulatedFacing, IsOutsideFacing}
-use Rattle.cn_net.specs.Islands.{IsIslandLabelling, IsIslands, IsJoined}
+use Rattle.cn_net.specs.Islands.{IsIslandLabelling, IsIslands, IsJoined, holds_device}
 use Rattle.cn_net.specs.Islands.IsJoined.{itself, link}
-use Rattle.cn_net.specs.Network.{Network, IsLinked, joins, same_device}
+use Rattle.cn_net.specs.Network.{Network, IsLinked, device_ids, is_linked, joins, peers_of, same_device}
+use Rattle.cn_net.specs.Sessions.{session_ends}
 
 -- ---- links with the same ends
 
@@ -31,6 +33,31 @@ found_by_ends a b (l ∷ ls) = at (joins a b l) (found_by_ends a b ls)
         ≡ is_some (cond t (Some (ends_of l)) (find (joins_ends a b) (map ends_of ls)))
     at true e = refl
     at false e = e
+
+-- ---- the sessions are said by the ends of the links
+
+linked_same : (x y : Network) → HaveSameEnds x y → (a b : DeviceId)
+    → is_linked x a b ≡ is_linked y a b
+linked_same x y same a b =
+    found_by_ends a b x.links
+    ∙ ap (λ es. is_some (find (joins_ends a b) es)) same.links
+    ∙ sym (found_by_ends a b y.links)
+
+ids_same : (x y : Network) → HaveSameEnds x y → device_ids x ≡ device_ids y
+unfolding device_ids
+ids_same x y same = ap (λ n. map (λ k. record { 0 = k }) (range_with_len 0 n)) same.devices
+
+peers_same : (x y : Network) → HaveSameEnds x y → (d : DeviceId) → peers_of x d ≡ peers_of y d
+unfolding peers_of
+peers_same x y same d = λ i. filter (λ b. linked_same x y same d b i) (ids_same x y same i)
+
+-- as many devices, and links with the same ends: the same sessions
+pub sessions_same : (x y : Network) (emulated : List DeviceId) → HaveSameEnds x y
+    → session_ends x emulated ≡ session_ends y emulated
+unfolding session_ends
+sessions_same x y emulated same = λ i.
+    flat_map (λ (a : DeviceId). map (λ (b : DeviceId). record { from = a; to = b })
+    (filter (holds_device emulated) (peers_same x y same a i))) (ids_same x y same i)
 
 -- ---- the same devices, and links with the same ends
 

@@ -18,4 +18,5 @@ pub mod Certificate
 pub mod Boundary
 pub mod Limits
 pub mod Opening
+pub mod Sessions
 pub mod Alike

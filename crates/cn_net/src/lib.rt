@@ -30,6 +30,7 @@ mod make;
 mod neighbours;
 mod net;
 mod repeat;
+mod sessions;
 mod sets;
 
 pub use certified::Certified;
@@ -39,4 +40,5 @@ pub use fault::{NetAnswer, NetFault, What};
 pub use limits::{Excess, passed_limit, row_count, session_count};
 pub use neighbours::Neighbour;
 pub use net::Net;
+pub use sessions::{SessionEnds, SessionIndex};
 pub use sets::{DeviceSet, Labels};
