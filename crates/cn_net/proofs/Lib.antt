@@ -4,6 +4,7 @@ pub mod Apart
 pub mod Boundary
 pub mod Candidates
 pub mod Chains
+pub mod ChangedInside
 pub mod Counting
 pub mod Crossing
 pub mod Drafts

@@ -151,7 +151,7 @@ kept_link : (s : DeviceId → Bool) → Link → Bool
 kept_link s l = s l.a && s l.b
 
 -- the ends of a link that joins two devices
-joined_ends : (P : DeviceId → Type 0) (a b : DeviceId) (l : Link) → joins a b l ≡ true
+pub joined_ends : (P : DeviceId → Type 0) (a b : DeviceId) (l : Link) → joins a b l ≡ true
     → (P a → P b → P l.a × P l.b) × (P l.a → P l.b → P a × P b)
 joined_ends P a b l e =
     elim

@@ -1,14 +1,16 @@
 -- Networks that differ in nothing but in which of their links are up, in no end of a link, or in
 -- nothing outside.
-use Rattle.std.specs.Prelude.{◌≡◌, ◌↔◌, ◌&&◌, Bool, true, false, List, length, Option, None, map}
+use Rattle.std.specs.Prelude.{◌≡◌, ◌↔◌, ◌⊎◌, ◌&&◌, Bool, true, false, List, length, Option, None, map}
 use Rattle.std.specs.List.{filter}
 use Rattle.cn_base.specs.declared.ids.DeviceId.{DeviceId}
 use Rattle.cn_net.specs.Certificate.{IsCertified}
+use Rattle.cn_net.specs.Changed.{with_body, with_link}
 use Rattle.cn_net.specs.Islands.{IsIslandLabelling, IsIslands}
 use Rattle.cn_net.specs.Network.{Network, IsDevice, device_of}
 use Rattle.cn_net.specs.Records.{AreSound}
 use Rattle.cn_net.specs.Restriction.{restricted}
 use Rattle.cn_net.specs.Stable.{Assignment, IsStable}
+use Rattle.cn_net.specs.declared.device.Body.{Body}
 use Rattle.cn_net.specs.declared.device.Link.{Link}
 
 -- ---- links with the same ends
@@ -53,6 +55,10 @@ pub record DifferInside (net net' : Network) (outside : DeviceId → Bool) : Typ
   pub devices : (d : DeviceId) → outside d ≡ true → device_of net d ≡ device_of net' d
   pub links : links_outside outside net ≡ links_outside outside net'
 
+-- an end of the link of two devices is emulated
+abbrev pub IsLinkInside : (DeviceId → Bool) → DeviceId → DeviceId → Type 0
+IsLinkInside outside a b = (outside a ≡ false) ⊎ (outside b ≡ false)
+
 -- no emulated device has a label
 abbrev pub LabelsOutside : Network → (DeviceId → Bool) → (DeviceId → Option DeviceId) → Type 0
 LabelsOutside net outside label =
@@ -65,3 +71,18 @@ pub record HaveRecordsAlike (net net' : Network) (outside : DeviceId → Bool) :
   pub sound : (label : DeviceId → Option DeviceId) (said : Assignment)
       → LabelsOutside net outside label
       → AreSound net outside label said ↔ AreSound net' outside label said
+
+-- ---- what a change leaves as it is
+
+-- a link that goes down or comes up, and a device that has another body, leave the ends of all links
+-- and the number of the devices
+pub record ChangesKeepEnds (net : Network) : Type 0 where
+  pub link : (a b : DeviceId) (up : Bool) → HaveSameEnds net (with_link net a b up)
+  pub body : (d : DeviceId) (body : Body) → HaveSameEnds net (with_body net d body)
+
+-- where an end of the link, or the device, is emulated, they differ inside alone
+pub record ChangesStayInside (net : Network) (outside : DeviceId → Bool) : Type 0 where
+  pub link : (a b : DeviceId) (up : Bool) → IsLinkInside outside a b
+      → DifferInside net (with_link net a b up) outside
+  pub body : (d : DeviceId) (body : Body) → outside d ≡ false
+      → DifferInside net (with_body net d body) outside

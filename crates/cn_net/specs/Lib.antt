@@ -10,6 +10,7 @@ pub mod OneState
 pub mod Restriction
 pub mod Records
 pub mod Kept
+pub mod Changed
 pub mod Numbered
 pub mod Ends
 pub mod Faults

@@ -4,7 +4,8 @@
 
 ghost use Rattle.std.specs.Prelude.{◌≡◌, ◌↔◌, Bool, List, Option};
 ghost use Rattle.cn_base.specs.declared.ids.DeviceId.{DeviceId};
-ghost use Rattle.cn_net.specs.Alike.{DifferInside, DifferInUp, HaveBoundariesAlike, HaveRecordsAlike, HaveSameEnds};
+ghost use Rattle.cn_net.specs.Alike.{ChangesKeepEnds, ChangesStayInside, DifferInUp, DifferInside, HaveBoundariesAlike, HaveRecordsAlike, HaveSameEnds};
+ghost use Rattle.cn_net.specs.Changed.{with_link};
 ghost use Rattle.cn_net.specs.Certificate.{IsCertified};
 ghost use Rattle.cn_net.specs.Islands.{HaveSameIslands};
 ghost use Rattle.cn_net.specs.Network.{Network};
@@ -37,4 +38,21 @@ pub fn ends_make_sessions()
 pub fn inside_changes_no_records()
     ensures { (net net' : Network) (outside : DeviceId → Bool)
         → DifferInside net net' outside → HaveRecordsAlike net net' outside }
+{}
+
+/// A link that goes down, comes up or is reset changes nothing but whether it is up.
+pub fn links_change_in_up()
+    ensures { (net : Network) (a b : DeviceId) (up : Bool)
+        → DifferInUp net (with_link net a b up) }
+{}
+
+/// No change of a link or of a device's configuration changes an end of a link or how many devices
+/// there are, and so which sessions there are.
+pub fn changes_keep_ends()
+    ensures { (net : Network) → ChangesKeepEnds net }
+{}
+
+/// A change of a link with an emulated end, and of an emulated device's configuration, is inside.
+pub fn changes_stay_inside()
+    ensures { (net : Network) (outside : DeviceId → Bool) → ChangesStayInside net outside }
 {}
