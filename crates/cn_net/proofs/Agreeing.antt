@@ -8,7 +8,8 @@ use Rattle.cn_net.specs.Islands.{HaveSameIslands, IsIslands}
 use Rattle.cn_net.specs.Network.{Network, IsDevice}
 
 pub islands_agree : (net : Network) (outside : DeviceId → Bool) (x y : DeviceId → Option DeviceId)
-    → IsIslands net outside x → IsIslands net outside y → (d : DeviceId) → IsDevice net d → x d ≡ y d
+    → IsIslands net outside x → IsIslands net outside y
+    → (d : DeviceId) → IsDevice net d → x d ≡ y d
 islands_agree net outside x y hx hy d is =
     elim (cases_Bool (outside d)) [
       | inl t ↦

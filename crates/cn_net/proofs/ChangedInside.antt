@@ -1,10 +1,10 @@
--- A change of a link or of a device's body leaves the ends of all links as they are, and where it is
--- inside, all that is outside.
-use Rattle.std.proofs.Common.{◌≡◌, ℕ, zero, suc, ◌&&◌, ◌⊎◌, Bool, true, false, cond, List, [], ◌∷◌, length, set, map, filter, Option, Some, None, inl, inr, refl, sym, ap, subst, ◌∙◌, slice_get, option_map, unwrap_or}
+-- A change of a link or of a device's body leaves the ends of all links as they are, and where it
+-- is inside, all that is outside.
+use Rattle.std.proofs.Common.{◌≡◌, ℕ, zero, suc, ◌&&◌, Bool, true, false, cond, List, [], ◌∷◌, length, set, map, filter, Option, Some, None, inl, inr, refl, sym, ap, ◌∙◌, slice_get, option_map, unwrap_or}
 use Rattle.std.proofs.lemmas.Bool.{and_parts, false_from_ne_true, true≢false}
 use Rattle.std.proofs.lemmas.List.{length-set}
 use Rattle.cn_base.specs.declared.ids.DeviceId.{DeviceId}
-use Rattle.cn_net.specs.Alike.{DifferInside, DifferInUp, HaveSameEnds, IsLinkInside, ends_of, links_outside}
+use Rattle.cn_net.specs.Alike.{DifferInside, DifferInUp, HaveSameEnds, IsLinkInside, ends_of}
 use Rattle.cn_net.specs.Changed.{reloaded, with_body, with_link, with_state}
 use Rattle.cn_net.specs.Network.{Network, device_of, joins}
 use Rattle.cn_net.specs.declared.device.Body.{Body}
@@ -16,14 +16,14 @@ use Rattle.cn_net.proofs.Restricted.{joined_ends}
 
 module _ (a b : DeviceId) (up : Bool) where
   -- a link as it is after the change
-  abbrev turned : Link → Link
-  turned l = cond (joins a b l) (with_state up l) l
+  abbrev after_change : Link → Link
+  after_change l = cond (joins a b l) (with_state up l) l
 
   ends_stay : (l : Link) (t : Bool) → ends_of l ≡ ends_of (cond t (with_state up l) l)
   ends_stay l true = refl
   ends_stay l false = refl
 
-  all_ends_stay : (links : List Link) → map ends_of links ≡ map ends_of (map turned links)
+  all_ends_stay : (links : List Link) → map ends_of links ≡ map ends_of (map after_change links)
   all_ends_stay [] = refl
   all_ends_stay (l ∷ ls) = λ i. ends_stay l (joins a b l) i ∷ all_ends_stay ls i
 
@@ -51,10 +51,11 @@ module _ (a b : DeviceId) (up : Bool) where
         ∙ same
         ∙ sym (ap (λ k. cond k (with_state up l ∷ ms) ms) (never refl))
 
-    outside_stay : (links : List Link) → filter is_outside links ≡ filter is_outside (map turned links)
+    outside_stay : (links : List Link)
+        → filter is_outside links ≡ filter is_outside (map after_change links)
     outside_stay [] = refl
     outside_stay (l ∷ ls) =
-        one_stays l (filter is_outside ls) (filter is_outside (map turned ls)) (joins a b l)
+        one_stays l (filter is_outside ls) (filter is_outside (map after_change ls)) (joins a b l)
         (not_outside l) (outside_stay ls)
 
 pub link_keeps_ends : (net : Network) (a b : DeviceId) (up : Bool)

@@ -1,5 +1,5 @@
 -- What the look-ups of an index of sessions find.
-use Rattle.std.proofs.Common.{◌≡◌, ◌≢◌, ℕ, ◌+◌, ◌-◌, ◌<◌, ◌≤◌, ◌↔◌, Bool, true, false, cond, List, [], ◌∷◌, length, get_or, Option, Some, Less, Equal, Greater, inl, inr, refl, sym, ap, ◌∙◌, arith, option_map, unwrap_or, slice_get, slice_range}
+use Rattle.std.proofs.Common.{◌≡◌, ◌≢◌, ℕ, ◌+◌, ◌-◌, ◌<◌, ◌≤◌, ◌↔◌, Bool, true, false, cond, List, [], ◌∷◌, length, get_or, Option, Some, Less, Equal, Greater, inl, inr, refl, sym, ap, subst, ◌∙◌, arith, option_map, unwrap_or, slice_get, slice_range}
 use Rattle.std.specs.List.{All, filter, range_with_len}
 use Rattle.std.specs.List.Sorted.{IsNonDecreasingBy, IsPartitionPoint}
 use Rattle.std.specs.Ordering.{is_lt, nat_cmp, ordering_index}
@@ -18,40 +18,25 @@ use Rattle.cn_net.proofs.Keys.{same_device-Decides}
 
 -- ---- what the tests of a place say
 
-comes_gives : (ends : List SessionEnds) (d : DeviceId) (k : ℕ) (e : SessionEnds)
-    → comes_from ends d k ≡ true → (k < length ends) × ((get_or ends k e).from ≡ d)
-comes_gives ends d k e t =
-    let test = λ (o : Option SessionEnds). unwrap_or
-    (option_map (λ x. same_device x.from d) o) false in
-    elim (slice_get_cases ends k).1 [
-      | inl (x, lt, is, at) ↦ (
-        lt,
-        ap (λ (z : SessionEnds). z.from) (get_or_default ends k e x lt ∙ at)
-            ∙ (same_device-Decides x.from d).0 (sym (ap test is) ∙ t),
-      )
-      | inr (le, is) ↦ absurd (false≢true (sym (ap test is) ∙ t))
-    ]
+-- one of the ends of the session at a place
+module _ (of : SessionEnds → DeviceId) (ends : List SessionEnds) (d : DeviceId) (k : ℕ)
+    (e : SessionEnds) where
+  abbrev test : Option SessionEnds → Bool
+  test o = unwrap_or (option_map (λ x. same_device (of x) d) o) false
 
-comes_holds : (ends : List SessionEnds) (d : DeviceId) (k : ℕ) (e : SessionEnds) → k < length ends
-    → (get_or ends k e).from ≡ d → comes_from ends d k ≡ true
-comes_holds ends d k e lt is =
-    ap (λ (o : Option SessionEnds). unwrap_or (option_map (λ x. same_device x.from d) o) false)
-    (slice_get-get_or ends k e lt)
-    ∙ (same_device-Decides (get_or ends k e).from d).1 is
+  end_is : test (slice_get ends k) ≡ true → (k < length ends) × (of (get_or ends k e) ≡ d)
+  end_is t = elim (slice_get_cases ends k).1 [
+    | inl (x, lt, is, at) ↦ (
+      lt,
+      ap of (get_or_default ends k e x lt ∙ at)
+          ∙ (same_device-Decides (of x) d).0 (sym (ap test is) ∙ t),
+    )
+    | inr (le, is) ↦ absurd (false≢true (sym (ap test is) ∙ t))
+  ]
 
-leads_gives : (ends : List SessionEnds) (d : DeviceId) (k : ℕ) (e : SessionEnds)
-    → leads_to ends d k ≡ true → (k < length ends) × ((get_or ends k e).to ≡ d)
-leads_gives ends d k e t =
-    let test = λ (o : Option SessionEnds). unwrap_or
-    (option_map (λ x. same_device x.to d) o) false in
-    elim (slice_get_cases ends k).1 [
-      | inl (x, lt, is, at) ↦ (
-        lt,
-        ap (λ (z : SessionEnds). z.to) (get_or_default ends k e x lt ∙ at)
-            ∙ (same_device-Decides x.to d).0 (sym (ap test is) ∙ t),
-      )
-      | inr (le, is) ↦ absurd (false≢true (sym (ap test is) ∙ t))
-    ]
+  end_holds : k < length ends → of (get_or ends k e) ≡ d → test (slice_get ends k) ≡ true
+  end_holds lt is =
+      ap test (slice_get-get_or ends k e lt) ∙ (same_device-Decides (of (get_or ends k e)) d).1 is
 
 -- ---- the sessions from a device
 
@@ -64,7 +49,7 @@ pub record AreFrom (ends : List SessionEnds) (d : DeviceId) (s e : ℕ) : Type 0
   pub within : e ≤ length ends
   pub these : (k : ℕ) → ((s ≤ k) × (k < e)) ↔ (comes_from ends d k ≡ true)
 
-pub between_starts : (ends : List SessionEnds) (starts : List ℕ) (d : DeviceId)
+between_starts : (ends : List SessionEnds) (starts : List ℕ) (d : DeviceId)
     → AreStarts ends starts → d.0 + 1 < length starts
     → AreFrom ends d (get_or starts d.0 0) (get_or starts (d.0 + 1) 0)
 between_starts ends starts d so inside =
@@ -86,9 +71,10 @@ between_starts ends starts d so inside =
             let high = so.behind d.0 k 0 none (omega arith) ge (omega arith) in
             let low = so.before (d.0 + 1) k 0 none inside lt in
             let same : (get_or ends k none).from.0 ≡ d.0 = omega arith in
-            comes_holds ends d k none (omega arith) (λ i. record { 0 = same i }),
+            end_holds (λ (x : SessionEnds). x.from) ends d k none (omega arith)
+            (λ i. record { 0 = same i }),
         λ t.
-            let is = comes_gives ends d k none t in
+            let is = end_is (λ (x : SessionEnds). x.from) ends d k none t in
             let lt = is.0 in
             let same : (get_or ends k none).from.0 ≡ d.0 = ap (λ (z : DeviceId). z.0) is.1 in (
               elim (cases_lt k s) [
@@ -105,6 +91,17 @@ between_starts ends starts d so inside =
       );
     }
 
+-- the same of two places that were looked up
+pub range_at : (ends : List SessionEnds) (starts : List ℕ) (d : DeviceId) (s e : ℕ)
+    → AreStarts ends starts → d.0 + 1 < length starts → s ≡ get_or starts d.0 s
+    → e ≡ get_or starts (d.0 + 1) e → AreFrom ends d s e
+range_at ends starts d s e so inside start end =
+    let a = start ∙ get_or_default starts d.0 s 0 (omega arith) in
+    let b = end ∙ get_or_default starts (d.0 + 1) e 0 inside in
+    subst (AreFrom ends d s) (sym b)
+    (subst (λ n. AreFrom ends d n (get_or starts (d.0 + 1) 0)) (sym a)
+    (between_starts ends starts d so inside))
+
 -- a device that has no place where its sessions begin has none
 pub no_device : (ends : List SessionEnds) (starts : List ℕ) (d : DeviceId)
     → All (λ e. e.from.0 + 1 < length starts) ends → length starts ≤ d.0 + 1 → AreFrom ends d 0 0
@@ -114,7 +111,7 @@ no_device ends starts d senders past = record {
   these = λ k. (
     λ (ge, lt). absurd (omega arith),
     λ t.
-        let is = comes_gives ends d k none t in
+        let is = end_is (λ (x : SessionEnds). x.from) ends d k none t in
         let lt = is.0 in
         let below = senders k none lt in
         let same : (get_or ends k none).from.0 ≡ d.0 = ap (λ (z : DeviceId). z.0) is.1 in
@@ -135,7 +132,7 @@ pub no_places : (ends : List SessionEnds) (n : ℕ) (d : DeviceId) → All (λ e
     → n ≤ d.0 → [] ≡ places_into ends d
 no_places ends n d receivers past =
     sym (none_kept (leads_to ends d) (λ k t.
-    let is = leads_gives ends d k none t in
+    let is = end_is (λ (x : SessionEnds). x.to) ends d k none t in
     let lt = is.0 in
     let below = receivers k none lt in
     let same : (get_or ends k none).to.0 ≡ d.0 = ap (λ (z : DeviceId). z.0) is.1 in
@@ -149,8 +146,8 @@ receivers_rise x y h same = let e = ap (λ (z : DeviceId). z.0) same in grind (a
 not_fallen : (m n : ℕ) → m < n → is_lt (nat_cmp n m) ≡ false
 not_fallen m n lt = grind (arith, nat_tests)
 
-tied : (m n : ℕ) → nat_cmp m n ≡ Equal → m ≡ n
-tied m n e = grind (arith, nat_tests)
+equal_from_tie : (m n : ℕ) → nat_cmp m n ≡ Equal → m ≡ n
+equal_from_tie m n e = grind (arith, nat_tests)
 
 not_less : (n : ℕ) → nat_cmp n n ≡ Less → ⊥
 not_less n e = grind (arith, nat_tests)
@@ -167,15 +164,16 @@ module _ (ends : List SessionEnds) (from to : DeviceId) (s e : ℕ) (up : Ascend
   part_at k x lt =
       let within = so.within in (
         get_or-between ends s e k x lt,
-        (comes_gives ends from (s + k) x ((so.these (s + k)).0 (omega arith, lt))).1,
+        (end_is (λ (x : SessionEnds). x.from) ends from (s + k) x
+            ((so.these (s + k)).0 (omega arith, lt))).1,
       )
 
   part_length : length (slice_range ends s e) ≡ e - s
   part_length = length-between ends s e so.within
 
-  pub searchable : IsNonDecreasingBy (λ y. ordering_index (nat_cmp y.to.0 to.0))
+  pub receivers_searchable : IsNonDecreasingBy (λ y. ordering_index (nat_cmp y.to.0 to.0))
       (slice_range ends s e)
-  searchable =
+  receivers_searchable =
       searchable_from_sorted nat_cmp_total (λ (y : SessionEnds). y.to.0) (slice_range ends s e) to.0
       (λ k x low within.
       let many = part_length in
@@ -188,29 +186,30 @@ module _ (ends : List SessionEnds) (from to : DeviceId) (s e : ℕ) (up : Ascend
       (λ i. is_lt (nat_cmp (next.0 i).to.0 (here.0 i).to.0))
       ∙ not_fallen (get_or ends (s + k) x).to.0 (get_or ends (s + (k + 1)) x).to.0 less)
 
-  pub found : (i : ℕ) → i < length (slice_range ends s e)
+  pub place_holds : (i : ℕ) → i < length (slice_range ends s e)
       → ((x : SessionEnds) → nat_cmp (get_or (slice_range ends s e) i x).to.0 to.0 ≡ Equal)
       → slice_get ends (s + i) ≡ Some (record { from = from; to = to })
-  found i within tie =
+  place_holds i within tie =
       let many = part_length in
       let end = so.within in
       let at = part_at i none (omega arith) in
       let same : (get_or ends (s + i) none).to.0 ≡ to.0 =
-      sym (ap (λ (z : SessionEnds). z.to.0) at.0) ∙ tied _ _ (tie none) in
+      sym (ap (λ (z : SessionEnds). z.to.0) at.0) ∙ equal_from_tie _ _ (tie none) in
       slice_get-get_or ends (s + i) none (omega arith)
       ∙ (λ j. Some (record { from = at.1 j; to = record { 0 = same j } }))
 
-  pub missing : (i : ℕ)
+  pub no_place : (i : ℕ)
       → IsPartitionPoint (λ y. nat_cmp y.to.0 to.0 ≡ Less) (λ y. nat_cmp y.to.0 to.0 ≡ Greater)
       (slice_range ends s e) i
       → (k : ℕ) → slice_get ends k ≢ Some (record { from = from; to = to })
-  missing i parts k is =
+  no_place i parts k is =
       let it : SessionEnds = record { from = from; to = to } in
       elim (slice_get_cases ends k).1 [
         | inl (x, lt, here, at) ↦
             let same : get_or ends k x ≡ it = at ∙ same_Some x it (sym here ∙ is) in
             let range =
-            (so.these k).1 (comes_holds ends from k x lt (ap (λ (z : SessionEnds). z.from) same)) in
+            (so.these k).1 (end_holds (λ (x : SessionEnds). x.from) ends from k x lt
+            (ap (λ (z : SessionEnds). z.from) same)) in
             let low = range.0 in
             let high = range.1 in
             let many = part_length in

@@ -25,7 +25,10 @@ record IsTie (x y : Rank) : Type 0 where
   origin : x.origin ≡ y.origin
   sender : x.sender.0 ≡ y.sender.0
 
-three_ties : (l m p q s t : ℕ) → is_lt (ordering_then (nat_cmp l m) (ordering_then (nat_cmp p q) (nat_cmp s t))) ≡ false → is_lt (ordering_then (nat_cmp m l) (ordering_then (nat_cmp q p) (nat_cmp t s))) ≡ false → (l ≡ m) × (p ≡ q) × (s ≡ t)
+three_ties : (l m p q s t : ℕ)
+    → is_lt (ordering_then (nat_cmp l m) (ordering_then (nat_cmp p q) (nat_cmp s t))) ≡ false
+    → is_lt (ordering_then (nat_cmp m l) (ordering_then (nat_cmp q p) (nat_cmp t s))) ≡ false
+    → (l ≡ m) × (p ≡ q) × (s ≡ t)
 three_ties l m p q s t h k = grind (arith, nat_tests)
 
 same_origin : (o q : Origin) → origin_code o ≡ origin_code q → o ≡ q
@@ -39,7 +42,9 @@ same_origin Incomplete Igp e = cc
 same_origin Incomplete Egp e = cc
 same_origin Incomplete Incomplete e = refl
 
-learnt_ties : (a b : Bool) (x y : Ordering) → is_lt (ordering_then (bool_cmp a b) x) ≡ false → is_lt (ordering_then (bool_cmp b a) y) ≡ false → (a ≡ b) × (is_lt x ≡ false) × (is_lt y ≡ false)
+learnt_ties : (a b : Bool) (x y : Ordering) → is_lt (ordering_then (bool_cmp a b) x) ≡ false
+    → is_lt (ordering_then (bool_cmp b a) y) ≡ false
+    → (a ≡ b) × (is_lt x ≡ false) × (is_lt y ≡ false)
 learnt_ties false false x y h k = (refl, h, k)
 learnt_ties false true x y h k = cc
 learnt_ties true false x y h k = cc
@@ -48,7 +53,8 @@ learnt_ties true true x y h k = (refl, h, k)
 rank_ties : (x y : Rank) → is_lt (rank_cmp x y) ≡ false → is_lt (rank_cmp y x) ≡ false → IsTie x y
 rank_ties x y h k =
     let l = learnt_ties x.learnt y.learnt _ _ h k in
-    let r = three_ties x.length y.length (origin_code x.origin) (origin_code y.origin) x.sender.0 y.sender.0 l.1 l.2 in
+    let r = three_ties x.length y.length (origin_code x.origin)
+    (origin_code y.origin) x.sender.0 y.sender.0 l.1 l.2 in
     record {
       learnt = l.0;
       length = r.0;
@@ -61,50 +67,73 @@ rank_ties x y h k =
 shorter_first : (l m : ℕ) (o : Ordering) → is_lt (ordering_then (nat_cmp l m) o) ≡ false → m ≤ l
 shorter_first l m o h = grind (arith, nat_tests)
 
-no_longer_than_learnt : (a b : Bool) (l m : ℕ) (o : Ordering) → b ≡ true → is_lt (ordering_then (bool_cmp a b) (ordering_then (nat_cmp l m) o)) ≡ false → m ≤ l
+no_longer_than_learnt : (a b : Bool) (l m : ℕ) (o : Ordering) → b ≡ true
+    → is_lt (ordering_then (bool_cmp a b) (ordering_then (nat_cmp l m) o)) ≡ false → m ≤ l
 no_longer_than_learnt a false l m o e h = cc
 no_longer_than_learnt false true l m o e h = cc
 no_longer_than_learnt true true l m o e h = shorter_first l m o h
 
 -- a candidate that another doesn't outrank is no longer than that one
-pub no_longer : (net : Network) (came : DeviceId → Option Route) (b : DeviceId) (p : Cidr) (c d : Choice) → IsCandidate net came b p d → outranks net c d ≡ false → length d.path ≤ length c.path
+pub no_longer : (net : Network) (came : DeviceId → Option Route) (b : DeviceId) (p : Cidr)
+    (c d : Choice) → IsCandidate net came b p d → outranks net c d ≡ false
+    → length d.path ≤ length c.path
 unfolding outranks
 no_longer net came b p c d (inl u) h = rw u.empty (omega arith)
 no_longer net came b p c d (inr u) h =
-    no_longer_than_learnt (is_some c.from) (is_some d.from) (length c.path) (length d.path) _ (ap (λ (x : Choice). is_some x.from) u.is) h
+    no_longer_than_learnt (is_some c.from) (is_some d.from) (length c.path) (length d.path) _
+    (ap (λ (x : Choice). is_some x.from) u.is) h
 
 -- ---- candidates that don't outrank each other
 
 same_choice : (c d : Choice) → c.from ≡ d.from → c.path ≡ d.path → c.origin ≡ d.origin → c ≡ d
 same_choice c d e f g = λ i. record { from = e i; path = f i; origin = g i }
 
-sender_is : (net : Network) (o : Option DeviceId) (d : DeviceId) → o ≡ Some d → unwrap_or (option_map (router_of net) o) (record { 0 = 0 }) ≡ router_of net d
-sender_is net o d e = ap (λ (x : Option DeviceId). unwrap_or (option_map (router_of net) x) (record { 0 = 0 })) e
+sender_is : (net : Network) (o : Option DeviceId) (d : DeviceId) → o ≡ Some d
+    → unwrap_or (option_map (router_of net) o) (record { 0 = 0 }) ≡ router_of net d
+sender_is net o d e =
+    ap (λ (x : Option DeviceId). unwrap_or (option_map (router_of net) x) (record { 0 = 0 })) e
 
 same_router : (x y : RouterId) → x.0 ≡ y.0 → x ≡ y
 same_router x y e = λ i. record { 0 = e i }
 
-same_sender : (net : Network) (came : DeviceId → Option Route) (b : DeviceId) (c d : Choice) (u : IsLearnt net came b c) (v : IsLearnt net came b d) → u.sender ≡ v.sender → c ≡ d
+same_sender : (net : Network) (came : DeviceId → Option Route) (b : DeviceId) (c d : Choice)
+    (u : IsLearnt net came b c) (v : IsLearnt net came b d) → u.sender ≡ v.sender → c ≡ d
 same_sender net came b c d u v e = cc
 
-pub one_candidate : (net : Network) (came : DeviceId → Option Route) (b : DeviceId) (p : Cidr) (c d : Choice) → HasDistinctIds net → IsCandidate net came b p c → IsCandidate net came b p d → outranks net c d ≡ false → outranks net d c ≡ false → c ≡ d
+pub one_candidate : (net : Network) (came : DeviceId → Option Route) (b : DeviceId) (p : Cidr)
+    (c d : Choice) → HasDistinctIds net → IsCandidate net came b p c → IsCandidate net came b p d
+    → outranks net c d ≡ false → outranks net d c ≡ false → c ≡ d
 unfolding outranks
-one_candidate net came b p c d ids (inl u) (inl v) h k = same_choice c d (u.none ∙ sym v.none) (u.empty ∙ sym v.empty) (rank_ties (rank_of net c) (rank_of net d) h k).origin
-one_candidate net came b p c d ids (inl u) (inr v) h k = absurd (false≢true (sym (ap is_some u.none) ∙ (rank_ties (rank_of net c) (rank_of net d) h k).learnt ∙ ap (λ (x : Choice). is_some x.from) v.is))
-one_candidate net came b p c d ids (inr u) (inl v) h k = absurd (false≢true (sym (ap is_some v.none) ∙ sym (rank_ties (rank_of net c) (rank_of net d) h k).learnt ∙ ap (λ (x : Choice). is_some x.from) u.is))
+one_candidate net came b p c d ids (inl u) (inl v) h k =
+    same_choice c d (u.none ∙ sym v.none) (u.empty ∙ sym v.empty)
+    (rank_ties (rank_of net c) (rank_of net d) h k).origin
+one_candidate net came b p c d ids (inl u) (inr v) h k =
+    absurd (false≢true (sym (ap is_some u.none)
+    ∙ (rank_ties (rank_of net c) (rank_of net d) h k).learnt
+    ∙ ap (λ (x : Choice). is_some x.from) v.is))
+one_candidate net came b p c d ids (inr u) (inl v) h k =
+    absurd (false≢true (sym (ap is_some v.none)
+    ∙ sym (rank_ties (rank_of net c) (rank_of net d) h k).learnt
+    ∙ ap (λ (x : Choice). is_some x.from) u.is))
 one_candidate net came b p c d ids (inr u) (inr v) h k =
     let t = (rank_ties (rank_of net c) (rank_of net d) h k).sender in
     let r = same_router _ _ t in
-    let e = sym (sender_is net c.from u.sender (ap (λ (x : Choice). x.from) u.is)) ∙ r ∙ sender_is net d.from v.sender (ap (λ (x : Choice). x.from) v.is) in
+    let e = sym (sender_is net c.from u.sender (ap (λ (x : Choice). x.from) u.is)) ∙ r
+    ∙ sender_is net d.from v.sender (ap (λ (x : Choice). x.from) v.is) in
     same_sender net came b c d u v (ids u.sender v.sender u.is_device v.is_device e)
 
 -- ---- one best
 
-one_best : (net : Network) (came : DeviceId → Option Route) (b : DeviceId) (p : Cidr) → HasDistinctIds net → (o q : Option Choice) → IsBest net came b p o → IsBest net came b p q → o ≡ q
+one_best : (net : Network) (came : DeviceId → Option Route) (b : DeviceId) (p : Cidr)
+    → HasDistinctIds net → (o q : Option Choice) → IsBest net came b p o → IsBest net came b p q
+    → o ≡ q
 one_best net came b p ids None None h k = refl
 one_best net came b p ids None (Some d) h k = absurd (h d k.0)
 one_best net came b p ids (Some c) None h k = absurd (k c h.0)
-one_best net came b p ids (Some c) (Some d) h k = ap Some (one_candidate net came b p c d ids h.0 k.0 (k.1 c h.0) (h.1 d k.0))
+one_best net came b p ids (Some c) (Some d) h k =
+    ap Some (one_candidate net came b p c d ids h.0 k.0 (k.1 c h.0) (h.1 d k.0))
 
-pub best_is_best_of : (net : Network) (came : DeviceId → Option Route) (b : DeviceId) (p : Cidr) (o : Option Choice) → HasDistinctIds net → IsBest net came b p o → o ≡ best_of net came b p
-best_is_best_of net came b p o ids h = one_best net came b p ids o (best_of net came b p) h (best_of_is_best net came b p)
+pub best_is_best_of : (net : Network) (came : DeviceId → Option Route) (b : DeviceId) (p : Cidr)
+    (o : Option Choice) → HasDistinctIds net → IsBest net came b p o → o ≡ best_of net came b p
+best_is_best_of net came b p o ids h =
+    one_best net came b p ids o (best_of net came b p) h (best_of_is_best net came b p)

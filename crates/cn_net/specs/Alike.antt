@@ -74,8 +74,8 @@ pub record HaveRecordsAlike (net net' : Network) (outside : DeviceId → Bool) :
 
 -- ---- what a change leaves as it is
 
--- a link that goes down or comes up, and a device that has another body, leave the ends of all links
--- and the number of the devices
+-- a link that goes down or comes up, and a device that has another body, leave the ends of all
+-- links and the number of the devices
 pub record ChangesKeepEnds (net : Network) : Type 0 where
   pub link : (a b : DeviceId) (up : Bool) → HaveSameEnds net (with_link net a b up)
   pub body : (d : DeviceId) (body : Body) → HaveSameEnds net (with_body net d body)

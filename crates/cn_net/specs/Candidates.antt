@@ -1,5 +1,6 @@
 -- The routes that a device may use for a prefix, and the best of them (RFC 4271, 9.1.2).
--- Below, `came a` is the route to the prefix that came in from device a: what stands in the Adj-RIB-In.
+-- Below, `came a` is the route to the prefix that came in from device a: what stands in the
+-- Adj-RIB-In.
 use Rattle.std.specs.Prelude.{◌≡◌, ◌⊎◌, Bool, true, false, [], length, Option, Some, None, is_some, unwrap_or, option_map, if◌then◌else◌}
 use Rattle.std.specs.List.{fold}
 use Rattle.cn_base.specs.Cidr.{Cidr}
@@ -39,7 +40,8 @@ pub record IsOwn (net : Network) (b : DeviceId) (p : Cidr) (c : Choice) : Type 0
   pub empty : c.path ≡ []
 
 -- c is a route that came in and that b accepts from its sender
-pub record IsLearnt (net : Network) (came : DeviceId → Option Route) (b : DeviceId) (c : Choice) : Type 0 where
+pub record IsLearnt (net : Network) (came : DeviceId → Option Route) (b : DeviceId)
+    (c : Choice) : Type 0 where
   pub sender : DeviceId
   pub route : Route
   pub is_device : IsDevice net sender
@@ -64,7 +66,8 @@ IsBest net came b p = IsBestAmong net (IsCandidate net came b p)
 
 -- the device's own route
 unfoldable pub own_choice : Network → DeviceId → Cidr → Option Choice
-own_choice net b p = option_map (λ o. record { from = None; path = []; origin = o }) (own_origin net b p)
+own_choice net b p =
+    option_map (λ o. record { from = None; path = []; origin = o }) (own_origin net b p)
 
 -- what b may use of what came from a
 unfoldable pub usable : Network → DeviceId → DeviceId → Option Route → Option Choice
@@ -77,6 +80,9 @@ better_of net None y = y
 better_of net (Some x) None = Some x
 better_of net (Some x) (Some y) = if outranks net y x then Some y else Some x
 
--- the best of b's candidates for p: `laws::best_is_best` and `laws::best_is_one` say that this is what `IsBest` says
+-- the best of b's candidates for p: `laws::best_is_best` and `laws::best_is_one` say that this is
+-- what `IsBest` says
 unfoldable pub best_of : Network → (DeviceId → Option Route) → DeviceId → Cidr → Option Choice
-best_of net came b p = fold (λ best a. better_of net best (usable net b a (came a))) (own_choice net b p) (device_ids net)
+best_of net came b p =
+    fold (λ best a. better_of net best (usable net b a (came a))) (own_choice net b p)
+    (device_ids net)

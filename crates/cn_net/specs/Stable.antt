@@ -1,4 +1,5 @@
--- Stable states of a network: nobody would decide otherwise. There is no message, mailbox or order of events here.
+-- Stable states of a network: nobody would decide otherwise. There is no message, mailbox or order
+-- of events here.
 use Rattle.std.specs.Prelude.{Option, option_and_then}
 use Rattle.cn_base.specs.Cidr.{Cidr}
 use Rattle.cn_base.specs.declared.ids.DeviceId.{DeviceId}
@@ -26,4 +27,5 @@ offers_to net held b p a = offer_of net a b p (held a p)
 
 -- each device holds, for each prefix, the best of what the others offer and of its own
 abbrev pub IsStable : Network → Assignment → Type 0
-IsStable net held = (b : DeviceId) (p : Cidr) → IsDevice net b → IsBest net (offers_to net held b p) b p (held b p)
+IsStable net held =
+    (b : DeviceId) (p : Cidr) → IsDevice net b → IsBest net (offers_to net held b p) b p (held b p)

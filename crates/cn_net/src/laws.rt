@@ -34,17 +34,22 @@ pub fn faultless_drafts()
 
 /// A network's islands have one labelling: two that meet the definition agree on all devices.
 pub fn islands_are_one()
-    ensures { (net : Network) (outside : DeviceId → Bool) (x y : DeviceId → Option DeviceId) → IsIslands net outside x → IsIslands net outside y → (d : DeviceId) → IsDevice net d → x d ≡ y d }
+    ensures { (net : Network) (outside : DeviceId → Bool) (x y : DeviceId → Option DeviceId)
+        → IsIslands net outside x → IsIslands net outside y
+        → (d : DeviceId) → IsDevice net d → x d ≡ y d }
 {}
 
 /// Where two labellings agree on all devices and one of them has the certificate, so has the other.
 pub fn certified_alike()
-    ensures { (net : Network) (outside : DeviceId → Bool) (x y : DeviceId → Option DeviceId) → ((d : DeviceId) → IsDevice net d → x d ≡ y d) → IsCertified net outside x → IsCertified net outside y }
+    ensures { (net : Network) (outside : DeviceId → Bool) (x y : DeviceId → Option DeviceId)
+        → ((d : DeviceId) → IsDevice net d → x d ≡ y d)
+        → IsCertified net outside x → IsCertified net outside y }
 {}
 
 // ---- the four laws of what is offered and accepted, on which alone the proofs above rest
 
-/// What is offered of a route is one route: a function of the network, the two devices and the route.
+/// What is offered of a route is one route: a function of the network, the two devices and the
+/// route.
 pub fn offers_are_one()
     ensures { (net : Network) (a b : DeviceId) (r x y : Route)
         → offer net a b r ≡ Some x → offer net a b r ≡ Some y → x ≡ y }
@@ -56,8 +61,8 @@ pub fn offers_are_longer()
         → offer net a b r ≡ Some x → length r.path < length x.path }
 {}
 
-/// Its path begins with the AS number of the device that offers it and ends with the path of the route
-/// (RFC 4271, 5.1.2), and prefix and ORIGIN are those of the route.
+/// Its path begins with the AS number of the device that offers it and ends with the path of the
+/// route (RFC 4271, 5.1.2), and prefix and ORIGIN are those of the route.
 pub fn offers_begin_with_the_sender()
     ensures { (net : Network) (a b : DeviceId) (r x : Route)
         → offer net a b r ≡ Some x → IsOffered net a b r x }
@@ -80,7 +85,8 @@ pub fn best_is_best()
 
 /// In a valid network nothing else is: the best of a device's candidates is one choice, or none.
 pub fn best_is_one()
-    ensures { (net : Network) (came : DeviceId → Option Route) (b : DeviceId) (p : Cidr) (o : Option Choice)
+    ensures { (net : Network) (came : DeviceId → Option Route) (b : DeviceId) (p : Cidr)
+        (o : Option Choice)
         → IsValid net → IsBest net came b p o → o ≡ best_of net came b p }
 {}
 
@@ -89,8 +95,8 @@ pub fn one_stable_state()
     ensures { (net : Network) → IsValid net → HasOneStableState net }
 {}
 
-/// The same for some of its devices and one prefix: where the choices of the others are given, exactly
-/// one assignment to these devices is stable for the prefix.
+/// The same for some of its devices and one prefix: where the choices of the others are given,
+/// exactly one assignment to these devices is stable for the prefix.
 pub fn one_stable_state_for()
     ensures { (net : Network) (s : DeviceId → Bool) (p : Cidr) (given : Assignment)
         → IsValid net → HasOneStableStateFor net s p given }
@@ -108,9 +114,9 @@ pub fn restricted_is_valid()
     ensures { (net : Network) (s : DeviceId → Bool) → IsValid net → IsValid (restricted net s) }
 {}
 
-/// Where no device of a set originates a prefix, each route to it that a device of the set holds in a
-/// stable state came into the set from a device that isn't in it, and the AS number of that device stands
-/// in its path.
+/// Where no device of a set originates a prefix, each route to it that a device of the set holds in
+/// a stable state came into the set from a device that isn't in it, and the AS number of that
+/// device stands in its path.
 pub fn routes_cross()
     ensures { (net : Network) (s : DeviceId → Bool) (held : Assignment) (p : Cidr)
         → RoutesCross net s held p }
@@ -122,9 +128,9 @@ pub fn islands_are_a_labelling()
         → IsIslands net outside label → IsIslandLabelling net outside label }
 {}
 
-/// Behind a certified boundary, where the records are sound, each outside device holds in the stable state
-/// of the whole network what is recorded of it for the prefixes of its island. The labels are any that
-/// fit.
+/// Behind a certified boundary, where the records are sound, each outside device holds in the
+/// stable state of the whole network what is recorded of it for the prefixes of its island. The
+/// labels are any that fit.
 pub fn outside_as_recorded()
     ensures { (net : Network) (outside : DeviceId → Bool) (label : DeviceId → Option DeviceId)
         (said state : Assignment)
@@ -132,16 +138,17 @@ pub fn outside_as_recorded()
         → OutsideAsRecorded net label said state }
 {}
 
-/// Behind a certified boundary no emulated device accepts from an outside device a route to a prefix that
-/// isn't of that device's island: its own AS number stands in the path (RFC 4271, 9.1.2).
+/// Behind a certified boundary no emulated device accepts from an outside device a route to a
+/// prefix that isn't of that device's island: its own AS number stands in the path (RFC 4271,
+/// 9.1.2).
 pub fn no_foreign_offer()
     ensures { (net : Network) (outside : DeviceId → Bool) (label : DeviceId → Option DeviceId)
         (state : Assignment)
         → IsBounded net outside label state → NoForeignOffer net outside label state }
 {}
 
-/// So emulated devices that hold their best, where the outside devices say what is recorded of them and
-/// never react, hold what they hold in the one stable state of the whole network.
+/// So emulated devices that hold their best, where the outside devices say what is recorded of them
+/// and never react, hold what they hold in the one stable state of the whole network.
 pub fn quiet_is_stable()
     ensures { (net : Network) (outside : DeviceId → Bool) (label : DeviceId → Option DeviceId)
         (said held state : Assignment)
