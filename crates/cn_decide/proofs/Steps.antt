@@ -3,7 +3,7 @@
 use Rattle.std.proofs.Common.{◌≡◌, Bool, true, false, cond, List, [], ◌∷◌, Option, Some, None, option_map, refl, sym, ap, ◌∙◌}
 use Rattle.std.specs.List.{fold}
 use Rattle.cn_base.specs.declared.rank.Rank.{Rank}
-use Rattle.cn_decide.specs.Decide.{better, better_by, outranks_by, with_rank}
+use Rattle.cn_decide.specs.Decide.{better, better_by, on_item, outranks_by, with_rank}
 use Rattle.cn_decide.specs.declared.Ranked.{Ranked}
 
 -- nothing adds nothing
@@ -42,11 +42,7 @@ fold-with_rank rank f x (b ∷ more) =
 
 -- ---- the same ranks beside something else
 
--- what stands beside a rank, changed
-abbrev pub on_item : {A B : Type 0} → (A → B) → Ranked A → Ranked B
-on_item f r = record { rank = r.rank; item = f r.item }
-
--- it doesn't matter to the decision
+-- what stands beside the ranks doesn't matter to the decision
 pub on_item-better : {A B : Type 0} (f : A → B) (x y : Option (Ranked A))
     → option_map (on_item f) (better x y)
     ≡ better (option_map (on_item f) x) (option_map (on_item f) y)

@@ -40,6 +40,10 @@ better_by rank (Some x) (Some y) = if outranks_by rank y x then Some y else Some
 abbrev pub with_rank : {A : Type 0} → (A → Rank) → A → Ranked A
 with_rank rank x = record { rank = rank x; item = x }
 
+-- something else beside the same rank
+abbrev pub on_item : {A B : Type 0} → (A → B) → Ranked A → Ranked B
+on_item f r = record { rank = r.rank; item = f r.item }
+
 -- the better of two, by the ranks that stand beside them
 abbrev pub better : {A : Type 0} → Option (Ranked A) → Option (Ranked A) → Option (Ranked A)
 better x y = better_by (λ r. r.rank) x y

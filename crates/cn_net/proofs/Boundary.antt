@@ -41,7 +41,7 @@ linked_by_held net held a b p r e =
     (offer-gives net a b (route_of p h.source) r h.offered)
 
 -- a device refuses what went through a device of its own AS number
-refused_as_loop : (net : Network) (a b x : DeviceId) (p : Cidr) (c : Choice) (r : Route)
+pub refused_as_loop : (net : Network) (a b x : DeviceId) (p : Cidr) (c : Choice) (r : Route)
     → offer net a b (route_of p c) ≡ Some r → holds_asn c.path (asn_of net x) ≡ true
     → asn_of net x ≡ asn_of net b → accept net b a r ≡ false
 refused_as_loop net a b x p c r e h same =

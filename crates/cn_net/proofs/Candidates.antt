@@ -3,17 +3,14 @@ use Rattle.std.proofs.Common.{◌≡◌, suc, zero, ◌⊎◌, false, List, [], 
 use Rattle.std.specs.List.{All, Contains, fold}
 use Rattle.std.proofs.lemmas.Option.{none-some, same_Some, cond_some}
 use Rattle.std.proofs.lemmas.Bool.{cases_Bool, cond-true, cond-false}
-use Rattle.std.proofs.lemmas.Cmp.{then_total, on_total, nat_cmp_total}
 use Rattle.std.proofs.lemmas.List.Elements.{All-head, All-tail}
-use Rattle.std.proofs.lemmas.List.MinMax.{ranks_by}
-use Rattle.std.specs.Cmp.{IsTotalOrder, IsStrictWeakOrder, bool_cmp_total}
+use Rattle.std.specs.Cmp.{IsStrictWeakOrder}
 use Rattle.cn_base.specs.Cidr.{Cidr}
-use Rattle.cn_base.specs.Rank.{rank_cmp, origin_code}
 use Rattle.cn_base.specs.declared.ids.DeviceId.{DeviceId}
 use Rattle.cn_base.specs.declared.ids.Origin.{Origin}
-use Rattle.cn_base.specs.declared.rank.Rank.{Rank}
 use Rattle.cn_base.specs.declared.route.Choice.{Choice}
 use Rattle.cn_base.specs.declared.route.Route.{Route}
+use Rattle.cn_decide.proofs.Order.{outranks_by_order}
 use Rattle.cn_net.specs.Candidates.{IsOwn, IsLearnt, IsCandidate, IsBestAmong, IsBest, best_of, better_of, choice_from, outranks, own_choice, rank_of, usable}
 use Rattle.cn_net.specs.Exchange.{accept}
 use Rattle.cn_net.specs.Network.{Network, IsDevice, device_ids, own_origin}
@@ -21,16 +18,8 @@ use Rattle.cn_net.proofs.Peers.{all_devices, only_devices}
 
 -- ---- the order
 
-rank_cmp_total : IsTotalOrder rank_cmp
-rank_cmp_total =
-    then_total (on_total (λ (r : Rank). r.learnt) bool_cmp_total)
-    (then_total (on_total (λ (r : Rank). r.length) nat_cmp_total)
-    (then_total (on_total (λ (r : Rank). origin_code r.origin) nat_cmp_total)
-    (on_total (λ (r : Rank). r.sender.0) nat_cmp_total)))
-
-pub outranks_order : (net : Network) → IsStrictWeakOrder (outranks net)
-unfolding outranks
-outranks_order net = ranks_by rank_cmp_total (rank_of net)
+outranks_order : (net : Network) → IsStrictWeakOrder (outranks net)
+outranks_order net = outranks_by_order (rank_of net)
 
 not_itself : (net : Network) (c : Choice) → outranks net c c ≡ false
 not_itself net c =
@@ -48,17 +37,13 @@ better_best net P Q (Some c) None p q =
 better_best net P Q (Some c) (Some d) p q =
     let w = outranks_order net in
     elim (cases_Bool (outranks net d c)) [
-      | inl t ↦
-          subst (IsBestAmong net (λ x. P x ⊎ Q x))
+      | inl t ↦ subst (IsBestAmong net (λ x. P x ⊎ Q x))
           (sym (cond-true (outranks net d c) (Some d) (Some c) t)) (
             inr q.0,
-            λ x. elim [
-              | inl h ↦ w.chain x c d (p.1 x h) (w.one_way d c t)
-              | inr h ↦ q.1 x h
-            ],
+            λ x.
+                elim [ inl h ↦ w.chain x c d (p.1 x h) (w.one_way d c t) | inr h ↦ q.1 x h ],
           )
-      | inr f ↦
-          subst (IsBestAmong net (λ x. P x ⊎ Q x))
+      | inr f ↦ subst (IsBestAmong net (λ x. P x ⊎ Q x))
           (sym (cond-false (outranks net d c) (Some d) (Some c) f))
           (inl p.0, λ x. elim [ inl h ↦ p.1 x h | inr h ↦ w.chain x d c (q.1 x h) f ])
     ]
@@ -138,7 +123,8 @@ usable_back : (net : Network) (came : DeviceId → Option Route) (b a : DeviceId
 unfolding usable IsFrom
 usable_back net came b a c (u, e) =
     let to_a = subst (λ (z : DeviceId). usable net b z (came z) ≡ Some c) e in
-    to_a (ap (usable net b u.sender) u.came_in ∙ cond-true (accept net b u.sender u.route)
+    to_a (ap (usable net b u.sender) u.came_in
+    ∙ cond-true (accept net b u.sender u.route)
     (Some (choice_from u.sender u.route)) None u.accepted ∙ ap Some (sym u.is))
 
 best_from : (net : Network) (came : DeviceId → Option Route) (b a : DeviceId) → IsDevice net a
@@ -199,9 +185,11 @@ best_folded : (net : Network) (came : DeviceId → Option Route) (b : DeviceId) 
 best_folded net came b [] P o all h =
     best_where net P (λ c. P c ⊎ IsFromAny net came b [] c) (λ c. inl) (none_more net came b P) o h
 best_folded net came b (a ∷ ds) P o all h =
-    let one = better_best net P (IsFrom net came b a) o (usable net b a (came a)) h
+    let one =
+    better_best net P (IsFrom net came b a) o (usable net b a (came a)) h
     (best_from net came b a (All-head (IsDevice net) a ds all)) in
-    let more = best_folded net came b ds (λ c. P c ⊎ IsFrom net came b a c)
+    let more =
+    best_folded net came b ds (λ c. P c ⊎ IsFrom net came b a c)
     (better_of net o (usable net b a (came a))) (All-tail (IsDevice net) a ds all) one in
     best_where net _ (λ c. P c ⊎ IsFromAny net came b (a ∷ ds) c) (one_more net came b a ds P)
     (one_less net came b a ds P) _ more

@@ -7,6 +7,7 @@ pub mod Chains
 pub mod ChangedInside
 pub mod Counting
 pub mod Crossing
+pub mod Deciding
 pub mod Drafts
 pub mod Faultless
 pub mod Finding
@@ -25,6 +26,7 @@ pub mod OneSet
 pub mod OneState
 pub mod Parts
 pub mod Peers
+mod Picks
 pub mod Places
 pub mod Quiet
 pub mod Ranks

@@ -13,6 +13,7 @@ use Rattle.cn_base.specs.declared.ids.RouterId.{RouterId}
 use Rattle.cn_base.specs.declared.rank.Rank.{Rank}
 use Rattle.cn_base.specs.declared.route.Choice.{Choice}
 use Rattle.cn_base.specs.declared.route.Route.{Route}
+use Rattle.cn_decide.specs.Decide.{outranks_by}
 use Rattle.cn_net.specs.Candidates.{IsLearnt, IsCandidate, IsBest, best_of, outranks, rank_of}
 use Rattle.cn_net.specs.Network.{Network, HasDistinctIds, router_of}
 use Rattle.cn_net.proofs.Candidates.{best_of_is_best}
@@ -77,7 +78,7 @@ no_longer_than_learnt true true l m o e h = shorter_first l m o h
 pub no_longer : (net : Network) (came : DeviceId → Option Route) (b : DeviceId) (p : Cidr)
     (c d : Choice) → IsCandidate net came b p d → outranks net c d ≡ false
     → length d.path ≤ length c.path
-unfolding outranks
+unfolding outranks_by
 no_longer net came b p c d (inl u) h = rw u.empty (omega arith)
 no_longer net came b p c d (inr u) h =
     no_longer_than_learnt (is_some c.from) (is_some d.from) (length c.path) (length d.path) _
@@ -103,17 +104,17 @@ same_sender net came b c d u v e = cc
 pub one_candidate : (net : Network) (came : DeviceId → Option Route) (b : DeviceId) (p : Cidr)
     (c d : Choice) → HasDistinctIds net → IsCandidate net came b p c → IsCandidate net came b p d
     → outranks net c d ≡ false → outranks net d c ≡ false → c ≡ d
-unfolding outranks
+unfolding outranks_by
 one_candidate net came b p c d ids (inl u) (inl v) h k =
     same_choice c d (u.none ∙ sym v.none) (u.empty ∙ sym v.empty)
     (rank_ties (rank_of net c) (rank_of net d) h k).origin
 one_candidate net came b p c d ids (inl u) (inr v) h k =
-    absurd (false≢true (sym (ap is_some u.none)
-    ∙ (rank_ties (rank_of net c) (rank_of net d) h k).learnt
+    absurd (false≢true
+    (sym (ap is_some u.none) ∙ (rank_ties (rank_of net c) (rank_of net d) h k).learnt
     ∙ ap (λ (x : Choice). is_some x.from) v.is))
 one_candidate net came b p c d ids (inr u) (inl v) h k =
-    absurd (false≢true (sym (ap is_some v.none)
-    ∙ sym (rank_ties (rank_of net c) (rank_of net d) h k).learnt
+    absurd (false≢true
+    (sym (ap is_some v.none) ∙ sym (rank_ties (rank_of net c) (rank_of net d) h k).learnt
     ∙ ap (λ (x : Choice). is_some x.from) u.is))
 one_candidate net came b p c d ids (inr u) (inr v) h k =
     let t = (rank_ties (rank_of net c) (rank_of net d) h k).sender in

@@ -11,6 +11,7 @@ use Rattle.cn_base.specs.declared.route.Route.{Route}
 use Rattle.cn_net.specs.declared.device.Device.{Device}
 use Rattle.cn_net.specs.declared.device.Own.{Own}
 use Rattle.cn_net.specs.declared.device.Link.{Link}
+use Rattle.cn_decide.specs.Decide.{outranks_by}
 use Rattle.cn_net.specs.Candidates.{outranks, rank_of}
 use Rattle.cn_net.specs.Exchange.{offer, accept, offered, accepts, is_up, offered_path, copies, export_permits, import_permits}
 use Rattle.cn_net.specs.Network.{Network, HasDistinctIds, device_of, asn_of, router_of, own_of, own_origin, joins, link_between, same_device}
@@ -258,7 +259,7 @@ rank_of_restricted net s c =
 
 pub outranks_restricted : (net : Network) (s : DeviceId → Bool) (x y : Choice)
     → outranks (restricted net s) x y ≡ outranks net x y
-unfolding outranks
+unfolding outranks_by
 outranks_restricted net s x y =
     ap (λ r. ranks_before r (rank_of (restricted net s) y)) (rank_of_restricted net s x)
     ∙ ap (λ r. ranks_before (rank_of net x) r) (rank_of_restricted net s y)

@@ -1,31 +1,36 @@
 -- The routes that a device may use for a prefix, and the best of them (RFC 4271, 9.1.2).
 -- Below, `came a` is the route to the prefix that came in from device a: what stands in the
 -- Adj-RIB-In.
-use Rattle.std.specs.Prelude.{◌≡◌, ◌⊎◌, Bool, true, false, [], length, Option, Some, None, is_some, unwrap_or, option_map, if◌then◌else◌}
-use Rattle.std.specs.List.{fold}
+use Rattle.std.specs.Prelude.{◌≡◌, ◌⊎◌, ℕ, Bool, true, false, List, [], map, Option, Some, None, is_some, unwrap_or, option_map, option_and_then, if◌then◌else◌}
+use Rattle.std.specs.List.{Contains, fold, slice_get}
 use Rattle.cn_base.specs.Cidr.{Cidr}
-use Rattle.cn_base.specs.Rank.{ranks_before}
 use Rattle.cn_base.specs.declared.ids.DeviceId.{DeviceId}
+use Rattle.cn_base.specs.declared.ids.RouterId.{RouterId}
 use Rattle.cn_base.specs.declared.rank.Rank.{Rank}
 use Rattle.cn_base.specs.declared.route.Choice.{Choice}
 use Rattle.cn_base.specs.declared.route.Route.{Route}
+use Rattle.cn_decide.specs.Decide.{better_by, outranks_by, rank_with}
+use Rattle.cn_decide.specs.declared.Candidate.{Candidate}
 use Rattle.cn_net.specs.Exchange.{accept}
 use Rattle.cn_net.specs.Network.{Network, IsDevice, device_ids, own_origin, router_of}
 
 -- ---- the order of choices (RFC 4271, 9.1.2.2)
 
+-- the BGP Identifier of the device that a choice came from, and 0 where it is the device's own
+abbrev pub sender_of : Network → Choice → RouterId
+sender_of net c = unwrap_or (option_map (router_of net) c.from) (record { 0 = 0 })
+
 -- what the decision compares of a choice
 abbrev pub rank_of : Network → Choice → Rank
-rank_of net c = record {
-  learnt = is_some c.from;
-  length = length c.path;
-  origin = c.origin;
-  sender = unwrap_or (option_map (router_of net) c.from) (record { 0 = 0 });
-}
+rank_of net c = rank_with (is_some c.from) c.path c.origin (sender_of net c)
 
 -- the rank of x stands before that of y
-unfoldable pub outranks : Network → Choice → Choice → Bool
-outranks net x y = ranks_before (rank_of net x) (rank_of net y)
+abbrev pub outranks : Network → Choice → Choice → Bool
+outranks net x y = outranks_by (rank_of net) x y
+
+-- the first of two choices, unless the second outranks it
+abbrev pub better_of : Network → Option Choice → Option Choice → Option Choice
+better_of net x y = better_by (rank_of net) x y
 
 -- ---- candidates
 
@@ -74,15 +79,27 @@ unfoldable pub usable : Network → DeviceId → DeviceId → Option Route → O
 usable net b a None = None
 usable net b a (Some r) = if accept net b a r then Some (choice_from a r) else None
 
--- the first of two choices, unless the second outranks it
-abbrev pub better_of : Network → Option Choice → Option Choice → Option Choice
-better_of net None y = y
-better_of net (Some x) None = Some x
-better_of net (Some x) (Some y) = if outranks net y x then Some y else Some x
-
 -- the best of b's candidates for p: `laws::best_is_best` and `laws::best_is_one` say that this is
 -- what `IsBest` says
 unfoldable pub best_of : Network → (DeviceId → Option Route) → DeviceId → Cidr → Option Choice
 best_of net came b p =
     fold (λ best a. better_of net best (usable net b a (came a))) (own_choice net b p)
     (device_ids net)
+
+-- ---- candidates in a list, as `cn_decide` has them
+
+-- a candidate, as a choice
+abbrev pub choice_of : Candidate → Choice
+choice_of c = record { from = c.from; path = c.route.path; origin = c.route.origin }
+
+-- where a candidate came from a device, its sender is the BGP Identifier of that device
+abbrev pub HasItsSender : Network → Candidate → Type 0
+HasItsSender net c = (a : DeviceId) → c.from ≡ Some a → c.sender ≡ router_of net a
+
+-- x is one of these candidates, as a choice
+abbrev pub IsListed : List Candidate → Choice → Type 0
+IsListed candidates x = Contains (map choice_of candidates) x
+
+-- the candidate at a place, as a choice
+abbrev pub listed_at : List Candidate → Option ℕ → Option Choice
+listed_at candidates place = option_map choice_of (option_and_then (slice_get candidates) place)

@@ -1,12 +1,15 @@
 //! Laws of the definitions. Each function does nothing; its contract is the law.
 
-ghost use Rattle.std.specs.Prelude.{◌≡◌, ◌↔◌, ◌<◌, ℕ, Bool, true, false, length, Option, None, Some};
+ghost use Rattle.std.specs.Prelude.{◌≡◌, ◌↔◌, ◌<◌, ℕ, Bool, true, false, length, List, Option, None, Some, MatchOption};
+ghost use Rattle.std.specs.List.{All};
 ghost use Rattle.cn_base.specs.Cidr.{Cidr};
 ghost use Rattle.cn_base.specs.declared.ids.DeviceId.{DeviceId};
 ghost use Rattle.cn_base.specs.declared.route.Choice.{Choice};
 ghost use Rattle.cn_base.specs.declared.route.Route.{Route};
 ghost use Rattle.cn_net.specs.Boundary.{AgreeInside, IsBounded, IsStableInside, NoForeignOffer, OutsideAsRecorded, RoutesCross};
-ghost use Rattle.cn_net.specs.Candidates.{IsBest, best_of};
+ghost use Rattle.cn_decide.specs.Decide.{IsPick};
+ghost use Rattle.cn_decide.specs.declared.Candidate.{Candidate};
+ghost use Rattle.cn_net.specs.Candidates.{HasItsSender, IsBest, IsBestAmong, IsListed, best_of, listed_at};
 ghost use Rattle.cn_net.specs.Certificate.{IsCertified};
 ghost use Rattle.cn_net.specs.Drafted.{StandsForOne, draft_of};
 ghost use Rattle.cn_base.specs.Paths.{holds_asn};
@@ -88,6 +91,16 @@ pub fn best_is_one()
     ensures { (net : Network) (came : DeviceId → Option Route) (b : DeviceId) (p : Cidr)
         (o : Option Choice)
         → IsValid net → IsBest net came b p o → o ≡ best_of net came b p }
+{}
+
+/// Where each learnt candidate of a list bears the BGP Identifier of the device that it came from,
+/// the pick of the list is the best among them, and there is none exactly where the list is empty.
+/// The second premise is what `pick` of `cn_decide` ensures.
+pub fn pick_is_best()
+    ensures { (net : Network) (candidates : List Candidate) (place : Option ℕ)
+        → All (HasItsSender net) candidates
+        → MatchOption place (length candidates ≡ 0) (IsPick candidates)
+        → IsBestAmong net (IsListed candidates) (listed_at candidates place) }
 {}
 
 /// A valid network has exactly one stable state.

@@ -1,11 +1,13 @@
 -- What each device holds for one prefix, in a list, and what the devices then decide.
-use Rattle.std.specs.Prelude.{◌≡◌, ◌+◌, Bool, true, false, not, min, List, length, Option, None, Some, slice_index_or, slice_set}
+use Rattle.std.specs.Prelude.{◌≡◌, ◌+◌, Bool, true, false, not, min, List, length, Option, None, Some, option_map, slice_index_or, slice_set}
 use Rattle.std.specs.List.{fold}
 use Rattle.cn_base.specs.Cidr.{Cidr}
 use Rattle.cn_base.specs.Rank.{ranks_before}
 use Rattle.cn_base.specs.declared.ids.DeviceId.{DeviceId}
 use Rattle.cn_base.specs.declared.rank.Rank.{Rank}
 use Rattle.cn_base.specs.declared.route.Choice.{Choice}
+use Rattle.cn_decide.specs.Decide.{with_rank}
+use Rattle.cn_decide.specs.declared.Ranked.{Ranked}
 use Rattle.cn_net.specs.Candidates.{best_of, rank_of, usable}
 use Rattle.cn_net.specs.Islands.{holds_device}
 use Rattle.cn_net.specs.Network.{Network, IsDevice, router_of}
@@ -20,14 +22,24 @@ held_of table d p = slice_index_or table d.0 None
 abbrev pub heard : Network → Cidr → List (Option Choice) → DeviceId → DeviceId → Option Choice
 heard net p table d a = usable net d a (offers_to net (held_of table) d p a)
 
+-- the same, beside its rank
+abbrev pub heard_ranked : Network → Cidr → List (Option Choice) → DeviceId → DeviceId
+    → Option (Ranked Choice)
+heard_ranked net p table d a = option_map (with_rank (rank_of net)) (heard net p table d a)
+
 -- the best rank that an offer of c from a can have: it is at least one number longer than c
 abbrev pub shortest_rank : Network → DeviceId → Choice → Rank
-shortest_rank net a c = record { learnt = true; length = min (length c.path + 1) 255; origin = c.origin; sender = router_of net a }
+shortest_rank net a c = record {
+  learnt = true;
+  length = min (length c.path + 1) 255;
+  origin = c.origin;
+  sender = router_of net a;
+}
 
 -- no offer of c from a can outrank the best so far
-abbrev pub is_unbeaten : Network → Option Choice → DeviceId → Choice → Bool
+abbrev pub is_unbeaten : Network → Option (Ranked Choice) → DeviceId → Choice → Bool
 is_unbeaten net None a c = false
-is_unbeaten net (Some best) a c = not (ranks_before (shortest_rank net a c) (rank_of net best))
+is_unbeaten net (Some best) a c = not (ranks_before (shortest_rank net a c) best.rank)
 
 -- what d decides, where the devices hold what the table has
 abbrev pub decided : Network → Cidr → List (Option Choice) → DeviceId → Option Choice
@@ -42,7 +54,9 @@ abbrev pub round_of : Network → Cidr → List (Option Choice) → List DeviceI
 round_of net p table ds = fold (turn net p) table ds
 
 -- these devices hold their best of what they offer each other, and the others hold nothing
-pub record IsSettled (net : Network) (p : Cidr) (ds : List DeviceId) (table : List (Option Choice)) : Type 0 where
+pub record IsSettled (net : Network) (p : Cidr) (ds : List DeviceId)
+    (table : List (Option Choice)) : Type 0 where
   pub size : length table ≡ length net.devices
-  pub others : (d : DeviceId) → IsDevice net d → holds_device ds d ≡ false → held_of table d p ≡ None
+  pub others : (d : DeviceId) → IsDevice net d → holds_device ds d ≡ false
+      → held_of table d p ≡ None
   pub stable : IsStableFor net (holds_device ds) p (held_of table)

@@ -1,47 +1,22 @@
-//! What a device decides for a prefix (RFC 4271, 9.1.2), where what the others hold stands in a table.
+//! What a device decides for a prefix (RFC 4271, 9.1.2), where what the others hold stands in a
+//! table.
+//!
+//! `decided` takes a device's own route, or else the best of what its neighbours offer: `learnt`
+//! goes through them and keeps the best so far beside its rank, and `cn_decide` compares. An offer
+//! copies the path that is held, so `better_heard` makes none that can't be taken: the device would
+//! refuse it as a loop, or the best so far stands before it whatever it is.
 
-ghost use Rattle.std.specs.Prelude.{◌≡◌, length, IfOk, None, Some};
+ghost use Rattle.std.specs.Prelude.{◌≡◌, length, IfOk, None, Some, option_map};
 ghost use Rattle.std.specs.List.{fold};
-ghost use Rattle.cn_net.specs.Candidates.{better_of, outranks, rank_of, usable};
+ghost use Rattle.cn_decide.specs.Decide.{better, with_rank};
+ghost use Rattle.cn_net.specs.Candidates.{rank_of, usable};
 ghost use Rattle.cn_net.specs.Network.{IsDevice, peers_of};
-ghost use Rattle.cn_record.specs.Tables.{decided, heard, is_unbeaten};
+ghost use Rattle.cn_record.specs.Tables.{decided, heard_ranked, is_unbeaten};
 
-use cn_base::{AsPath, Choice, DeviceId, Prefix, Rank, Route, RouterId};
+use cn_base::{AsPath, Choice, DeviceId, Prefix, Rank, Route};
+use cn_decide::{Ranked, better, rank_with};
 use cn_net::Net;
 use std::alloc::{AllocError, Global};
-
-// What decides between routes: own before learnt, the length of the path, the ORIGIN, and the sender
-// (RFC 4271, 9.1.2.2 a, b, f).
-fn rank_of(net: &Net, choice: &Choice) -> Rank
-    ensures { result ≡ rank_of net.now choice.now }
-{
-    Rank {
-        learnt: choice.from.is_some(),
-        length: choice.path.len(),
-        origin: choice.origin,
-        sender: match choice.from {
-            Some(sender) => net.router(sender),
-            None => RouterId(0),
-        },
-    }
-}
-
-// The first of two choices, unless the second outranks it.
-#[tactic(auto, unfolding(cn_net::specs::Candidates::outranks))]
-fn better_of(net: &Net, best: Option<Choice>, next: Choice) -> Option<Choice>
-    ensures { result ≡ better_of net.now best (Some next) }
-{
-    match best {
-        Some(best) => {
-            if rank_of(net, &next).is_before(&rank_of(net, &best)) {
-                Some(next)
-            } else {
-                Some(best)
-            }
-        }
-        None => Some(next),
-    }
-}
 
 // The better of the best so far and of an offered route, if the device accepts it.
 #[tactic(auto, unfolding(cn_net::specs::Candidates::usable))]
@@ -50,45 +25,46 @@ fn better_accepted(
     device: DeviceId,
     from: DeviceId,
     route: Route,
-    best: Option<Choice>,
-) -> Option<Choice>
-    requires device { IsDevice net.now device }
-    requires from { IsDevice net.now from }
-    ensures { result ≡ better_of net.now best (usable net.now device from (Some route)) }
+    best: Option<Ranked<Choice>>,
+) -> Option<Ranked<Choice>>
+    ensures { result
+        ≡ better best
+        (option_map (with_rank (rank_of net.now)) (usable net.now device from (Some route))) }
 {
     if !net.accept(device, from, &route) {
         return best;
     }
     let Route { path, origin, .. } = route;
-    let next = Choice {
+    let rank = rank_with(true, &path, origin, net.router(from));
+    let item = Choice {
         from: Some(from),
         path,
         origin,
     };
-    better_of(net, best, next)
+    better(best, Ranked { rank, item })
 }
 
-// Holds where no offer of what a device holds can outrank the best so far: an offer is at least one number
-// longer, and has the same ORIGIN.
-fn is_unbeaten(net: &Net, best: &Option<Choice>, from: DeviceId, held: &Choice) -> bool
+// Holds where no offer of what a device holds can outrank the best so far: an offer is at least one
+// number longer, and has the same ORIGIN.
+fn is_unbeaten(net: &Net, best: &Option<Ranked<Choice>>, from: DeviceId, held: &Choice) -> bool
     ensures { result ≡ is_unbeaten net.now best.now from held.now }
 {
     match best {
         Some(best) => {
+            let rank = rank_with(true, &held.path, held.origin, net.router(from));
             let shortest = Rank {
-                learnt: true,
-                length: held.path.len().saturating_add(1),
-                origin: held.origin,
-                sender: net.router(from),
+                length: rank.length.saturating_add(1),
+                ..rank
             };
-            !shortest.is_before(&rank_of(net, best))
+            !shortest.is_before(&best.rank)
         }
         None => false,
     }
 }
 
-// The better of the best so far and of what one more device offers. The offer isn't made, which would copy
-// the path, where it can't outrank the best so far.
+// The better of the best so far and of what one more device offers. What that one holds is looked
+// at first: an offer ends with the path that is held, so where that has the device's AS number the
+// offer is refused (RFC 4271, 9.1.2).
 fn better_heard(
     alloc: Global,
     net: &Net,
@@ -96,12 +72,12 @@ fn better_heard(
     device: DeviceId,
     prefix: &Prefix,
     from: DeviceId,
-    best: Option<Choice>,
-) -> Result<Option<Choice>, AllocError>
-    requires device { IsDevice net.now device }
+    best: Option<Ranked<Choice>>,
+) -> Result<Option<Ranked<Choice>>, AllocError>
     requires from { IsDevice net.now from }
     requires size { length table.now ≡ length net.now.devices }
-    ensures { IfOk result (λ o. o ≡ better_of net.now best (heard net.now prefix.now table.now device from)) }
+    ensures { IfOk result
+        (λ o. o ≡ better best (heard_ranked net.now prefix.now table.now device from)) }
 {
     let held = match &table[from.0 as usize] {
         Some(held) => held,
@@ -110,23 +86,28 @@ fn better_heard(
     if is_unbeaten(net, &best, from, held) {
         return Ok(best);
     }
+    if held.path.contains(net.asn(device)) {
+        return Ok(best);
+    }
     match net.offer_path(alloc, from, device, prefix, &held.path, held.origin)? {
         Some(route) => Ok(better_accepted(net, device, from, route, best)),
         None => Ok(best),
     }
 }
 
-// The best of what the neighbours of a device offer it.
+// The best of what the neighbours of a device offer it, beside its rank.
 fn learnt(
     alloc: Global,
     net: &Net,
     table: &[Option<Choice>],
     device: DeviceId,
     prefix: &Prefix,
-) -> Result<Option<Choice>, AllocError>
-    requires device { IsDevice net.now device }
+) -> Result<Option<Ranked<Choice>>, AllocError>
     requires size { length table.now ≡ length net.now.devices }
-    ensures { IfOk result (λ o. o ≡ fold (λ best a. better_of net.now best (heard net.now prefix.now table.now device a)) None (peers_of net.now device)) }
+    ensures { IfOk result
+        (λ o. o ≡ fold
+        (λ best a. better best (heard_ranked net.now prefix.now table.now device a)) None
+        (peers_of net.now device)) }
 {
     net.valid();
     let mut best = None;
@@ -148,12 +129,15 @@ pub fn decided(
     requires size { length table.now ≡ length net.now.devices }
     ensures { IfOk result (λ o. o ≡ decided net.now prefix.now table.now device) }
 {
-    match net.own_origin(device, prefix) {
-        Some(origin) => Ok(Some(Choice {
+    if let Some(origin) = net.own_origin(device, prefix) {
+        return Ok(Some(Choice {
             from: None,
             path: AsPath::empty(alloc),
             origin,
-        })),
-        None => learnt(alloc, net, table, device, prefix),
+        }));
+    }
+    match learnt(alloc, net, table, device, prefix)? {
+        Some(best) => Ok(Some(best.item)),
+        None => Ok(None),
     }
 }

@@ -1,5 +1,6 @@
-use Rattle.std.proofs.Common.{◌∙◌, ◌<◌, length, arith, sym}
-use Rattle.cn_record.proofs.Deciding.{not_offered, offered_next, passed_over, not_beaten}
+use Rattle.std.proofs.Common.{◌∙◌, ◌<◌, length, arith, ap, sym}
+use Rattle.cn_base.specs.Paths.{holds_asn}
+use Rattle.cn_record.proofs.Deciding.{better-held_none, better-loop, better-not_offered, better-offered, better-unbeaten}
 use Rattle.cn_record.proofs.decision.better_heard.Goals as goal
 use Rattle.cn_record.proofs.decision.better_heard.Goals.{In-Some}
 
@@ -7,17 +8,33 @@ within : (c : In-Some) → c.args.from.0 < length c.args.table.now
 within c = omega (arith, c.requires.from, c.requires.size)
 
 pub returns-in-None : goal.returns-in-None
-returns-in-None c = passed_over c.args.net.now c.args.prefix.now c.args.table.now c.args.device c.args.from c.args.best _ (omega (arith, c.requires.from, c.requires.size)) c.index-table-from.is c.in-None.is
+returns-in-None c =
+    better-held_none c.args.net.now c.args.prefix.now c.args.table.now c.args.device c.args.from
+    c.args.best _ (omega (arith, c.requires.from, c.requires.size)) c.index-table-from.is
+    c.in-None.is
 
 pub returns-then-is_unbeaten : goal.returns-then-is_unbeaten
 returns-then-is_unbeaten c =
-    not_beaten c.args.net.now c.args.prefix.now c.args.table.now c.args.device c.args.from c.args.best _ c.in-Some.held (within (goal.at.returns-then-is_unbeaten c).In-Some) c.index-table-from.is c.in-Some.is (sym c.is_unbeaten.ensures ∙ c.if-is_unbeaten.true)
+    better-unbeaten c.args.net.now c.args.prefix.now c.args.table.now c.args.device c.args.from
+    c.args.best _ c.in-Some.held (within (goal.at.returns-then-is_unbeaten c).In-Some)
+    c.index-table-from.is c.in-Some.is (sym c.is_unbeaten.ensures ∙ c.if-is_unbeaten.true)
+
+pub returns-then-contains : goal.returns-then-contains
+returns-then-contains c =
+    let held = c.contains.ensures ∙ ap (holds_asn c.in-Some.held.path) c.asn.ensures in
+    better-loop c.args.net.now c.args.prefix.now c.args.table.now c.args.device c.args.from
+    c.args.best _ c.in-Some.held (within (goal.at.returns-then-contains c).In-Some)
+    c.index-table-from.is c.in-Some.is (sym held ∙ c.if-contains.true)
 
 pub returns-in-Some-2 : goal.returns-in-Some-2
 returns-in-Some-2 c =
     c.better_accepted.ensures
-    ∙ offered_next c.args.net.now c.args.prefix.now c.args.table.now c.args.device c.args.from c.args.best _ c.in-Some.held (within (goal.at.returns-in-Some-2 c).In-Some) c.index-table-from.is c.in-Some.is _ (sym c.in-Some-2.is ∙ c.in_ok-route.ensures)
+    ∙ better-offered c.args.net.now c.args.prefix.now c.args.table.now c.args.device c.args.from
+    c.args.best _ c.in-Some.held (within (goal.at.returns-in-Some-2 c).In-Some)
+    c.index-table-from.is c.in-Some.is _ (sym c.in-Some-2.is ∙ c.in_ok-route.ensures)
 
 pub returns-in-None-2 : goal.returns-in-None-2
 returns-in-None-2 c =
-    not_offered c.args.net.now c.args.prefix.now c.args.table.now c.args.device c.args.from c.args.best _ c.in-Some.held (within (goal.at.returns-in-None-2 c).In-Some) c.index-table-from.is c.in-Some.is (sym c.in-None-2.is ∙ c.in_ok-route.ensures)
+    better-not_offered c.args.net.now c.args.prefix.now c.args.table.now c.args.device c.args.from
+    c.args.best _ c.in-Some.held (within (goal.at.returns-in-None-2 c).In-Some)
+    c.index-table-from.is c.in-Some.is (sym c.in-None-2.is ∙ c.in_ok-route.ensures)

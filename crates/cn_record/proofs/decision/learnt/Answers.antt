@@ -12,4 +12,7 @@ better_heard-requires-clause-from c =
     let k = c.loop-neighbour.neighbour-index in
     let none : Neighbour = record { of = record { 0 = 0 }; device = record { 0 = 0 }; link = 0 } in
     let n = get_or items k none in
-    (linked_devices net c.args.device n.device c.valid.ensures ((c.neighbours-neighbour-items.ensures.linked n.device).0 (k, n, c.loop-neighbour-test.true, get_or_default items k n none c.loop-neighbour-test.true, refl))).1
+    (linked_devices net c.args.device n.device c.valid.ensures
+    ((c.neighbours-neighbour-items.ensures.linked n.device).0
+    (k, n, c.loop-neighbour-test.true, get_or_default items k n none
+    c.loop-neighbour-test.true, refl))).1

@@ -3,7 +3,6 @@ use Rattle.std.specs.Prelude.{Option}
 use Rattle.cn_base.specs.declared.ids.Asn.{Asn}
 use Rattle.cn_base.specs.declared.route.Choice.{Choice}
 use Rattle.cn_net.specs.Network.{own_origin}
-use Rattle.cn_core.specs.Machine.{came_at}
 use Rattle.cn_core.specs.State.{CoreState}
 use Rattle.cn_core.proofs.Decided.{learnt_decided, own_decided}
 use Rattle.cn_core.proofs.engine.Engine.decided.Goals as goal
@@ -15,8 +14,7 @@ returns-in-Some c =
     ap (λ (t : CoreState). own_origin t.net c.args.device c.args.prefix.now) c.self.view_is in
     ap (λ (q : List Asn). Some (record { from = None; path = q; origin = c.in-Some.origin }))
     c.empty.ensures
-    ∙ own_decided s.net (came_at s c.args.device c.args.prefix.now) c.args.device c.args.prefix.now
-    c.in-Some.origin (c.in-Some.ensures ∙ net)
+    ∙ own_decided s c.args.device c.args.prefix.now c.in-Some.origin (c.in-Some.ensures ∙ net)
 
 pub returns-in_ok-copy-in-Some-learnt : goal.returns-in_ok-copy-in-Some-learnt
 returns-in_ok-copy-in-Some-learnt c =
@@ -25,17 +23,18 @@ returns-in_ok-copy-in-Some-learnt c =
     ap (λ (t : CoreState). own_origin t.net c.args.device c.args.prefix.now) c.self.view_is in
     let choice : List Asn → Option Choice =
     λ q. Some (record {
-      from = Some c.in-Some-learnt.from;
+      from = Some c.in-Some-learnt.best.item.0;
       path = q;
-      origin = c.in-Some-learnt.attributes.now.origin;
+      origin = c.in-Some-learnt.best.item.1.now.origin;
     }) in
-    ap choice c.in_ok-copy-in-Some-learnt.ensures ∙ c.in-Some-learnt.ensures
-    ∙ learnt_decided s c.requires.whole c.args.device c.args.prefix.now (c.in_default.ensures ∙ net)
+    ap choice c.in_ok-copy-in-Some-learnt.ensures
+    ∙ learnt_decided s c.requires.whole c.args.device c.args.prefix.now
+    (c.in_default.ensures ∙ net) (Some c.in-Some-learnt.best) c.in-Some-learnt.ensures
 
 pub returns-in-None : goal.returns-in-None
 returns-in-None c =
     let s = c.args.self.now in
     let net =
     ap (λ (t : CoreState). own_origin t.net c.args.device c.args.prefix.now) c.self.view_is in
-    c.in-None.ensures
-    ∙ learnt_decided s c.requires.whole c.args.device c.args.prefix.now (c.in_default.ensures ∙ net)
+    learnt_decided s c.requires.whole c.args.device c.args.prefix.now
+    (c.in_default.ensures ∙ net) None c.in-None.ensures
