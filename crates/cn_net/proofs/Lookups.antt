@@ -1,12 +1,15 @@
 -- What the look-ups of an index of sessions find.
-use Rattle.std.proofs.Common.{◌≡◌, ◌≢◌, ℕ, ◌+◌, ◌-◌, ◌<◌, ◌≤◌, ◌↔◌, Bool, true, false, cond, List, [], ◌∷◌, length, get_or, Option, Some, Less, Equal, Greater, inl, inr, refl, sym, ap, subst, ◌∙◌, arith, option_map, unwrap_or, slice_get, slice_range}
-use Rattle.std.specs.List.{All, filter, range_with_len}
+use Rattle.std.proofs.Common.{◌≡◌, ◌≢◌, ℕ, zero, suc, zero-add, ◌+◌, ◌-◌, ◌<◌, ◌≤◌, ◌↔◌, Bool, true, false, cond, List, [], ◌∷◌, length, get_or, Option, Some, Less, Equal, Greater, inl, inr, refl, sym, ap, subst, ◌∙◌, arith, option_map, unwrap_or, slice_get, slice_range}
+use Rattle.std.specs.List.{All, AllPairs, Contains, filter, range_with_len}
 use Rattle.std.specs.List.Sorted.{IsNonDecreasingBy, IsPartitionPoint}
 use Rattle.std.specs.Ordering.{is_lt, nat_cmp, ordering_index}
 use Rattle.std.proofs.lemmas.Bool.{cases_lt, false_from_ne_true, false≢true}
 use Rattle.std.proofs.lemmas.Bool.Decides.{nat_tests}
 use Rattle.std.proofs.lemmas.Cmp.{nat_cmp_total}
 use Rattle.std.proofs.lemmas.List.{get_or_default}
+use Rattle.std.proofs.lemmas.List.Elements.{All-contains, Contains-append_right, filter_passes}
+use Rattle.std.proofs.lemmas.List.FromFn.{get_or-range_with_len, length-range_with_len}
+use Rattle.std.proofs.lemmas.List.Kept.{AllPairs-filter}
 use Rattle.std.proofs.lemmas.List.Edits.{get_or-between, length-between}
 use Rattle.std.proofs.lemmas.List.Sorted.{searchable_from_sorted}
 use Rattle.std.proofs.lemmas.Option.{none-some, same_Some, slice_get-get_or, slice_get_cases}
@@ -229,3 +232,50 @@ module _ (ends : List SessionEnds) (from to : DeviceId) (s e : ℕ) (up : Ascend
             ]
         | inr (le, here) ↦ none-some it (sym here ∙ is)
       ]
+
+-- ---- the places of the sessions into a device, one by one
+
+filter_contains : {X : Type 0} (p : X → Bool) (xs : List X) (x : X) → Contains xs x → p x ≡ true
+    → Contains (filter p xs) x
+filter_contains p [] x (k, lt, is) t = absurd (omega (arith, lt))
+filter_contains p (y ∷ ys) x (zero, lt, is) t =
+    subst (λ b. Contains (cond b (y ∷ filter p ys) (filter p ys)) x) (sym (ap p is ∙ t))
+    (0, omega arith, is)
+filter_contains p (y ∷ ys) x (suc k, lt, is) t =
+    let rest = filter_contains p ys x (k, omega (arith, lt), is) t in
+    elim (p y) as (λ b. Contains (cond b (y ∷ filter p ys) (filter p ys)) x) [
+      | true ↦ Contains-append_right (y ∷ []) (filter p ys) x rest
+      | false ↦ rest
+    ]
+
+range_ascends : (n : ℕ) → AllPairs (λ x y. x < y) (range_with_len 0 n)
+range_ascends n i j d lt within =
+    let many = length-range_with_len 0 n in
+    let at = get_or-range_with_len 0 n i d (omega arith) in
+    let at' = get_or-range_with_len 0 n j d (omega arith) in
+    omega arith
+
+-- the places into a device ascend
+pub places_ascend : (ends : List SessionEnds) (d : DeviceId)
+    → AllPairs (λ x y. x < y) (places_into ends d)
+places_ascend ends d =
+    AllPairs-filter (λ x y. x < y) (leads_to ends d) (range_with_len 0 (length ends))
+    (range_ascends (length ends))
+
+-- each is the place of a session that leads to the device
+pub place_leads : (ends : List SessionEnds) (d : DeviceId) (k : ℕ) (e : SessionEnds)
+    → Contains (places_into ends d) k → (k < length ends) × ((get_or ends k e).to ≡ d)
+place_leads ends d k e h =
+    end_is (λ (x : SessionEnds). x.to) ends d k e
+    (All-contains (λ n. leads_to ends d n ≡ true) (places_into ends d) k
+    (filter_passes (leads_to ends d) (range_with_len 0 (length ends))) h)
+
+-- and the place of each such session is there
+pub leads_placed : (ends : List SessionEnds) (d : DeviceId) (k : ℕ) (e : SessionEnds)
+    → k < length ends → (get_or ends k e).to ≡ d → Contains (places_into ends d) k
+leads_placed ends d k e lt is =
+    let many = length-range_with_len 0 (length ends) in
+    let at : get_or (range_with_len 0 (length ends)) k k ≡ k =
+    get_or-range_with_len 0 (length ends) k k lt ∙ zero-add k in
+    filter_contains (leads_to ends d) (range_with_len 0 (length ends)) k (k, omega arith, at)
+    (end_holds (λ (x : SessionEnds). x.to) ends d k e lt is)
