@@ -2,7 +2,7 @@
 
 use crate::build::prefix;
 use cn_base::{AsPath, Asn, DeviceId, Origin, Route, RouterId};
-use cn_decide::{Candidate, pick, rank};
+use cn_decide::{Candidate, Ranked, better, pick, rank};
 use std::alloc::Global;
 use std::test::Fail;
 
@@ -94,6 +94,27 @@ fn picked(alloc: Global, rows: &[CandidateRow]) -> Result<Option<usize>, Fail> {
 fn the_least_rank_is_picked(rt: HostRuntime) -> Result<(), Fail> {
     for (case, rows, place) in CASES {
         assert_eq!(rt; picked(rt.alloc(), rows)?, *place, "{case}");
+    }
+    Ok(())
+}
+
+// The same, one candidate after another, beside its rank.
+fn kept(alloc: Global, rows: &[CandidateRow]) -> Result<Option<usize>, Fail> {
+    let mut best = None;
+    for (place, row) in rows.iter().enumerate() {
+        let next = Ranked {
+            rank: rank(&candidate(alloc, row)?),
+            item: place,
+        };
+        best = better(best, next);
+    }
+    Ok(best.map(|best| best.item))
+}
+
+#[test]
+fn the_least_rank_is_kept(rt: HostRuntime) -> Result<(), Fail> {
+    for (case, rows, place) in CASES {
+        assert_eq!(rt; kept(rt.alloc(), rows)?, *place, "{case}");
     }
     Ok(())
 }

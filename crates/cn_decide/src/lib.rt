@@ -3,18 +3,17 @@
 //! Every decision is made here. A layer that has its candidates in a list calls `pick`. One that
 //! meets them one after another, where they lie, calls `better` with each, and keeps the best so
 //! far beside its rank, so that no path is copied to be compared. The steps of the decision, in
-//! their order, are those of `Rank` of `cn_base`:
+//! their order, as `specs/Rank.antt` of `cn_base` has them:
 //!
-//! - a device's own route comes before each that it learnt;
+//! - the degree of preference (9.1.1) can't decide, since all routes have one; but a device's own
+//!   route comes before each that it learnt;
 //! - a) the path with the least number of AS numbers;
 //! - b) the lowest ORIGIN;
-//! - f) the lowest BGP Identifier of the sender.
-//!
-//! The others can't decide here. The degree of preference (9.1.1) is the same for all routes. c)
-//! compares the MULTI_EXIT_DISC, which no route has. d) puts eBGP before iBGP, and each session is
-//! eBGP. e) compares interior costs to the next hop, and sessions are single-hop, so there are
-//! none. g) compares the addresses of peers where f) leaves a tie, and BGP Identifiers are
-//! distinct.
+//! - c) can't decide: no route has a MULTI_EXIT_DISC;
+//! - d) can't decide: each session is eBGP;
+//! - e) can't decide: sessions are single-hop, so no route has an interior cost;
+//! - f) the lowest BGP Identifier of the sender;
+//! - g) can't decide: BGP Identifiers are distinct, so f) leaves no tie.
 //!
 //! The contracts cite `better` and `IsPick` of `specs/Decide.antt`, and through them `rank_cmp` of
 //! `cn_base`, the order of ranks. Which routes are candidates is left to the layer above.
