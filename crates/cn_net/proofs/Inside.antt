@@ -10,6 +10,7 @@ use Rattle.cn_base.specs.declared.route.Route.{Route}
 use Rattle.cn_net.specs.declared.device.Device.{Device}
 use Rattle.cn_net.specs.declared.device.Link.{Link}
 use Rattle.cn_net.specs.Alike.{DifferInside, HaveRecordsAlike, LabelsOutside, links_outside}
+use Rattle.cn_decide.specs.Decide.{outranks_by}
 use Rattle.cn_net.specs.Candidates.{IsBest, IsCandidate, IsLearnt, IsOwn, outranks, rank_of}
 use Rattle.cn_net.specs.Exchange.{accept, accepts, offer, offered}
 use Rattle.cn_net.specs.Network.{Network, IsDevice, device_of, joins, link_between, own_of, own_origin, router_of}
@@ -122,7 +123,7 @@ module _ (x y : Network) (s : DeviceId → Bool) (agree : AgreeWithin x y s) (he
 
   outranks_too : (c d : Choice) → IsCandidate x (offers_to x held b p) b p c
       → IsCandidate x (offers_to x held b p) b p d → outranks x c d ≡ outranks y c d
-  unfolding outranks
+  unfolding outranks_by
   outranks_too c d of_c of_d = λ i. ranks_before (rank_too c of_c i) (rank_too d of_d i)
 
 -- what is best in one is best in the other
