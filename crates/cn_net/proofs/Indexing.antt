@@ -9,7 +9,7 @@ use Rattle.std.proofs.lemmas.List.Elements.{All-nil, All-push, filter-append}
 use Rattle.std.proofs.lemmas.Option.{slice_get-get_or}
 use Rattle.cn_base.specs.declared.ids.DeviceId.{DeviceId}
 use Rattle.cn_net.specs.Network.{Network, device_ids, same_device}
-use Rattle.cn_net.specs.Sessions.{AreStarts, leads_to}
+use Rattle.cn_net.specs.Sessions.{SessionsBegin, leads_to}
 use Rattle.cn_net.specs.declared.sessions.SessionEnds.{SessionEnds}
 use Rattle.cn_net.proofs.Keys.{same_device-Decides}
 
@@ -88,7 +88,7 @@ module _ {X Y Z : Type 0} (number : X → Y) (keep : Y → Bool) (make : Y → Z
 
 -- ---- where the sessions from each device begin
 
-pub no_starts : (ends : List SessionEnds) → AreStarts ends []
+pub no_starts : (ends : List SessionEnds) → SessionsBegin ends []
 no_starts ends = record {
   within = All-nil (λ s. s ≤ length ends);
   before = λ d k s e lt below. absurd (omega arith);
@@ -96,9 +96,9 @@ no_starts ends = record {
 }
 
 pub starts_more : (ends : List SessionEnds) (starts : List ℕ) (d s : ℕ) → length starts ≡ d
-    → AreStarts ends starts → s ≤ length ends
+    → SessionsBegin ends starts → s ≤ length ends
     → IsPartitionPoint (λ e. ltb e.from.0 d ≡ true) (λ e. ltb e.from.0 d ≡ false) ends s
-    → AreStarts ends (starts ++ s ∷ [])
+    → SessionsBegin ends (starts ++ s ∷ [])
 starts_more ends starts d s many so fits parted =
     let more = length_push starts s in
     record {

@@ -2,6 +2,7 @@ pub mod Agreeing
 pub mod Alone
 pub mod Apart
 pub mod Boundary
+pub mod ByPrefix
 pub mod Candidates
 pub mod Chains
 pub mod ChangedInside
@@ -30,11 +31,14 @@ mod Picks
 pub mod Places
 pub mod Quiet
 pub mod Ranks
+pub mod Reloaded
 pub mod Remade
 pub mod Restricted
 pub mod Rounds
 pub mod SameEnds
 pub mod Seen
 pub mod SessionOrder
+pub mod Starts
 pub mod States
 pub mod Steps
+pub mod Turned

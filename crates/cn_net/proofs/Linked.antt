@@ -1,80 +1,93 @@
--- What the list of neighbours says of the link between two devices.
-use Rattle.std.proofs.Common.{◌≡◌, ℕ, ◌+◌, ◌<◌, ◌&&◌, Bool, true, false, List, length, get_or, Some, None, Less, Equal, Greater, sym, ◌∙◌, ap, subst, slice_get, find, inl, inr, arith}
-use Rattle.std.specs.List.{AllPairs, Contains, IsDistinct, position_or_len}
-use Rattle.std.specs.List.Sorted.{IsNonDecreasingBy, IsPartitionPoint}
-use Rattle.std.specs.Ordering.{is_lt, ordering_index, ordering_reverse}
-use Rattle.std.proofs.lemmas.Bool.{cases_Bool, cases_lt, false_from_ne_true}
+-- Which link joins two devices, and where it stands.
+use Rattle.std.proofs.Common.{◌≡◌, ℕ, ◌<◌, true, false, List, length, get_or, Some, None, Less, is_some, IsSome, option_map, find, position, sym, ◌∙◌, ap, subst, true≢false, arith}
+use Rattle.std.specs.List.{All, Any, IsDistinct}
+use Rattle.std.specs.Ordering.{is_eq, nat_cmp}
+use Rattle.std.proofs.lemmas.Bool.{false_from_ne_true}
 use Rattle.std.proofs.lemmas.Bool.Decides.{nat_tests}
-use Rattle.std.proofs.lemmas.List.Folds.{find_at}
-use Rattle.std.proofs.lemmas.List.Sorted.{searchable_from_sorted}
-use Rattle.std.proofs.lemmas.List.Sums.{passes_at_first, position_or_len_is}
-use Rattle.std.proofs.lemmas.Option.{slice_get-get_or, slice_get_cases}
+use Rattle.cn_lists.proofs.Finding.{All-from_find_none, Contains-from_find, find-first, position-first, position-none}
 use Rattle.cn_base.specs.declared.ids.DeviceId.{DeviceId}
-use Rattle.cn_net.specs.Neighbours.{AreNeighbours, TellsOfLink, by_ends, seen_from_a, seen_from_b}
+use Rattle.cn_net.specs.Neighbours.{TellsOfLink}
 use Rattle.cn_net.specs.Network.{joins, same_device}
 use Rattle.cn_net.specs.Valid.{same_ends}
 use Rattle.cn_net.specs.declared.device.Link.{Link}
 use Rattle.cn_net.specs.declared.neighbours.Neighbour.{Neighbour}
-use Rattle.cn_net.proofs.Seen.{by_ends_total, one_place, same_from_tie}
+use Rattle.cn_net.proofs.Keys.{same_device-Decides}
+use Rattle.cn_net.proofs.Seen.{one_place}
 
--- ---- the first that passes a test
+module _ (links : List Link) (a b : DeviceId) (distinct : IsDistinct same_ends links) where
+  -- no other link joins the two
+  pub joins-elsewhere : (i k : ℕ) (d : Link) → i < length links → k < length links → (i ≡ k → ⊥)
+      → joins a b (get_or links i d) ≡ true → joins a b (get_or links k d) ≡ false
+  joins-elsewhere i k d within within' apart t =
+      false_from_ne_true (joins a b (get_or links k d)) (λ s.
+      apart (one_place links a b i k d distinct within within' t s))
 
-found_there : {X : Type 0} (p : X → Bool) (xs : List X) (i : ℕ) (d : X) → i < length xs → p (get_or xs i d) ≡ true → ((k : ℕ) → k < i → p (get_or xs k d) ≡ false) → find p xs ≡ Some (get_or xs i d)
-found_there p xs i d within t before =
-    find_at p xs ∙ ap (slice_get xs) (position_or_len_is p xs i d (omega arith) before (λ _. t)) ∙ slice_get-get_or xs i d within
+  -- the link that joins the two is the one that is found
+  pub found_link : (i : ℕ) (d : Link) → i < length links → joins a b (get_or links i d) ≡ true
+      → find (joins a b) links ≡ Some (get_or links i d)
+  found_link i d within t =
+      find-first (joins a b) links i d within
+      (λ k lt. joins-elsewhere i k d within (omega arith) (λ e. omega arith) t) t
 
-pub found_link : (links : List Link) (a b : DeviceId) (i : ℕ) (d : Link) → IsDistinct same_ends links → i < length links → joins a b (get_or links i d) ≡ true → find (joins a b) links ≡ Some (get_or links i d)
-found_link links a b i d distinct within t =
-    found_there (joins a b) links i d within t (λ k lt. false_from_ne_true (joins a b (get_or links k d)) (λ s.
-    let same : k ≡ i = one_place links a b k i d distinct (omega arith) within s t in
-    omega arith))
+  -- the place of the link that a neighbour tells of
+  pub position-told : (n : Neighbour) → TellsOfLink links n → n.of ≡ a → n.device ≡ b
+      → position (joins a b) links ≡ Some n.link
+  position-told n tells of to =
+      let here : (d : Link) → joins a b (get_or links n.link d) ≡ true =
+      λ d. (λ j. joins (sym of j) (sym to j) (get_or links n.link d)) ∙ tells.joined d in
+      let within = tells.within in
+      position-first (joins a b) links n.link within
+      (λ d k lt. joins-elsewhere n.link k d within (omega arith) (λ e. omega arith) (here d)) here
 
-found_none : {X : Type 0} (p : X → Bool) (xs : List X) → ((k : ℕ) (x : X) → k < length xs → x ≡ get_or xs k x → p x ≡ true → ⊥) → find p xs ≡ None
-found_none p xs none =
-    elim (slice_get_cases xs (position_or_len p xs)).1 [
-      | inl (x, lt, is, at) ↦ absurd (none (position_or_len p xs) x lt (sym at) (ap p (sym at) ∙ passes_at_first p xs x lt))
-      | inr (le, is) ↦ find_at p xs ∙ is
-    ]
+  -- two devices that aren't linked have no place
+  pub position-unlinked : (IsSome (option_map (λ l. l.up) (find (joins a b) links)) → ⊥)
+      → position (joins a b) links ≡ None
+  position-unlinked none =
+      position-none (joins a b) links (λ k l lt.
+      false_from_ne_true (joins a b (get_or links k l)) (λ t.
+      none (ap (λ o. is_some (option_map (λ (x : Link). x.up) o)) (found_link k l lt t))))
 
--- ---- a binary search for two ends
+-- ---- the neighbour that is found
 
--- what stands for two ends in a comparison
-abbrev pub sought : DeviceId → DeviceId → Neighbour
-sought a b = record { of = a; device = b; link = 0 }
+is_eq-same : (x y : DeviceId) → is_eq (nat_cmp x.0 y.0) ≡ same_device x y
+is_eq-same x y = grind (arith, nat_tests)
 
--- the link that a neighbour with these ends tells of
-pub found_at : (links : List Link) (a b : DeviceId) (n : Neighbour) (d : Link) → IsDistinct same_ends links → TellsOfLink links n → by_ends n (sought a b) ≡ Equal → find (joins a b) links ≡ Some (get_or links n.link d)
-found_at links a b n d distinct tells e =
-    let same = same_from_tie n (sought a b) e in
-    found_link links a b n.link d distinct tells.within ((λ j. joins (sym same.0 j) (sym same.1 j) (get_or links n.link d)) ∙ tells.joined d)
+-- the number of a device ties with itself
+is_eq-itself : (x y : DeviceId) → x ≡ y → is_eq (nat_cmp x.0 y.0) ≡ true
+is_eq-itself x y e = is_eq-same x y ∙ (same_device-Decides x y).1 e
 
-not_fallen : (x y : Neighbour) → by_ends x y ≡ Less → is_lt (by_ends y x) ≡ false
-not_fallen x y h = ap is_lt (by_ends_total.antisymm y x ∙ ap ordering_reverse h)
+module _ (links : List Link) (a b : DeviceId) (distinct : IsDistinct same_ends links)
+    (list : List Neighbour) where
+  -- what tells of the link to a device has its place
+  pub position-found : (n : Neighbour) → All (λ m. m.of ≡ a) list → All (TellsOfLink links) list
+      → Some n ≡ find (λ m. is_eq (nat_cmp m.device.0 b.0)) list
+      → TellsOfLink links n × (position (joins a b) links ≡ Some n.link)
+  position-found n of tells is =
+      let h = Contains-from_find (λ (m : Neighbour). is_eq (nat_cmp m.device.0 b.0)) list n
+      (sym is) in
+      let k : ℕ = h.0.0 in
+      let within : k < length list = h.0.1 in
+      let here : get_or list k n ≡ n = h.0.2 in
+      let told : TellsOfLink links n = subst (TellsOfLink links) here (tells k n within) in (
+        told,
+        position-told links a b distinct n told
+            (ap (λ m. m.of) (sym here) ∙ of k n within)
+            ((same_device-Decides n.device b).0 (sym (is_eq-same n.device b) ∙ h.1)),
+      )
 
-searchable : (list : List Neighbour) (n : Neighbour) → AllPairs (λ x y. by_ends x y ≡ Less) list → IsNonDecreasingBy (λ y. ordering_index (by_ends y n)) list
-searchable list n up =
-    searchable_from_sorted by_ends_total (λ (x : Neighbour). x) list n (λ k d low within. not_fallen (get_or list k d) (get_or list (k + 1) d) (up k (k + 1) d (omega arith) within))
+  -- a device to which none tells of a link isn't linked
+  pub position-not_found : None ≡ find (λ m. is_eq (nat_cmp m.device.0 b.0)) list
+      → (IsSome (option_map (λ l. l.up) (find (joins a b) links)) → Any (λ m. m.device ≡ b) list)
+      → position (joins a b) links ≡ None
+  position-not_found none told =
+      position-unlinked links a b distinct (λ some.
+      let h = told some in
+      let n : Neighbour = h.1 in
+      let fails = All-from_find_none (λ (m : Neighbour). is_eq (nat_cmp m.device.0 b.0)) list
+      (sym none) h.0 n h.2 in
+      true≢false (sym (is_eq-itself n.device b h.4)
+      ∙ ap (λ (m : Neighbour). is_eq (nat_cmp m.device.0 b.0)) (sym h.3) ∙ fails))
 
-absent : (list : List Neighbour) (n m : Neighbour) (i : ℕ) → IsPartitionPoint (λ y. by_ends y m ≡ Less) (λ y. by_ends y m ≡ Greater) list i → Contains list n → by_ends n m ≡ Equal → ⊥
-absent list n m i parts (k, k_in, is) e =
-    elim (cases_lt k i) [
-      | inl low ↦ let f : by_ends n m ≡ Less = ap (λ x. by_ends x m) (sym is) ∙ parts.0 k n (omega arith) low in cc
-      | inr high ↦ let f : by_ends n m ≡ Greater = ap (λ x. by_ends x m) (sym is) ∙ parts.1 k n high k_in in cc
-    ]
-
-tied_a : (a b : DeviceId) (k : ℕ) (l : Link) → (same_device l.a a && same_device l.b b) ≡ true → by_ends (seen_from_a k l) (sought a b) ≡ Equal
-tied_a a b k l t = grind (arith, nat_tests)
-
-tied_b : (a b : DeviceId) (k : ℕ) (l : Link) → (same_device l.a a && same_device l.b b) ≡ false → joins a b l ≡ true → by_ends (seen_from_b k l) (sought a b) ≡ Equal
-tied_b a b k l f t = grind (arith, nat_tests)
-
--- where no neighbour has these ends, no link joins them
-pub missing : (links : List Link) (list : List Neighbour) (a b : DeviceId) (i : ℕ) → AreNeighbours links list
-    → (IsNonDecreasingBy (λ y. ordering_index (by_ends y (sought a b))) list → IsPartitionPoint (λ y. by_ends y (sought a b) ≡ Less) (λ y. by_ends y (sought a b) ≡ Greater) list i) → find (joins a b) links ≡ None
-missing links list a b i so parted =
-    let parts = parted (searchable list (sought a b) so.ascending) in
-    found_none (joins a b) links (λ k l lt is t.
-    elim (cases_Bool (same_device l.a a && same_device l.b b)) [
-      | inl s ↦ absent list (seen_from_a k l) (sought a b) i parts (subst (λ m. Contains list (seen_from_a k m)) (sym is) (so.first k l lt)) (tied_a a b k l s)
-      | inr f ↦ absent list (seen_from_b k l) (sought a b) i parts (subst (λ m. Contains list (seen_from_b k m)) (sym is) (so.second k l lt)) (tied_b a b k l f t)
-    ])
+-- a lesser number comes first
+pub nat_below : (m n : ℕ) → m < n → nat_cmp m n ≡ Less
+nat_below m n lt = grind (arith, nat_tests)

@@ -15,7 +15,7 @@ use Rattle.std.proofs.lemmas.List.Sorted.{searchable_from_sorted}
 use Rattle.std.proofs.lemmas.Option.{none-some, same_Some, slice_get-get_or, slice_get_cases}
 use Rattle.cn_base.specs.declared.ids.DeviceId.{DeviceId}
 use Rattle.cn_net.specs.Network.{same_device}
-use Rattle.cn_net.specs.Sessions.{AreStarts, Ascend, by_sender, comes_from, leads_to, places_into}
+use Rattle.cn_net.specs.Sessions.{SessionsBegin, Ascend, by_sender, comes_from, leads_to, places_into}
 use Rattle.cn_net.specs.declared.sessions.SessionEnds.{SessionEnds}
 use Rattle.cn_net.proofs.Keys.{same_device-Decides}
 
@@ -53,7 +53,7 @@ pub record AreFrom (ends : List SessionEnds) (d : DeviceId) (s e : ℕ) : Type 0
   pub these : (k : ℕ) → ((s ≤ k) × (k < e)) ↔ (comes_from ends d k ≡ true)
 
 between_starts : (ends : List SessionEnds) (starts : List ℕ) (d : DeviceId)
-    → AreStarts ends starts → d.0 + 1 < length starts
+    → SessionsBegin ends starts → d.0 + 1 < length starts
     → AreFrom ends d (get_or starts d.0 0) (get_or starts (d.0 + 1) 0)
 between_starts ends starts d so inside =
     let s = get_or starts d.0 0 in
@@ -96,7 +96,7 @@ between_starts ends starts d so inside =
 
 -- the same of two places that were looked up
 pub range_at : (ends : List SessionEnds) (starts : List ℕ) (d : DeviceId) (s e : ℕ)
-    → AreStarts ends starts → d.0 + 1 < length starts → s ≡ get_or starts d.0 s
+    → SessionsBegin ends starts → d.0 + 1 < length starts → s ≡ get_or starts d.0 s
     → e ≡ get_or starts (d.0 + 1) e → AreFrom ends d s e
 range_at ends starts d s e so inside start end =
     let a = start ∙ get_or_default starts d.0 s 0 (omega arith) in

@@ -1,12 +1,12 @@
 -- The places of names, in the index and among the devices.
-use Rattle.std.proofs.Common.{◌≡◌, ◌≢◌, ℕ, ◌+◌, ◌<◌, Bool, true, false, cond, List, String, [], ◌∷◌, ◌++◌, length, get_or, map, refl, sym, ◌∙◌, ap, arith, Some, None, nat_lt, not, if◌then◌else◌, position, unwrap_or}
+use Rattle.std.proofs.Common.{◌≡◌, ◌≢◌, ℕ, ◌+◌, ◌<◌, Bool, true, false, cond, List, String, [], ◌∷◌, ◌++◌, length, get_or, map, take, refl, sym, ◌∙◌, ap, arith, Some, None, nat_lt, not, if◌then◌else◌, position, unwrap_or}
 use Rattle.std.specs.List.{IsDistinct, list_any, position_or_len}
 use Rattle.std.specs.Str.{bytes_eq}
 use Rattle.std.specs.String.{string_bytes, string_eq}
 use Rattle.indexmap.specs.IndexSet.{insert_key}
-use Rattle.std.proofs.lemmas.Bool.{ltb-false, ltb-true}
+use Rattle.std.proofs.lemmas.Bool.{false_from_ne_true, ltb-false, ltb-true}
 use Rattle.std.proofs.lemmas.Cmp.{nat_list_eq_equiv}
-use Rattle.std.proofs.lemmas.List.{length-map, map-append}
+use Rattle.std.proofs.lemmas.List.{get_or-map, length-map, map-append, take-map, take_more}
 use Rattle.std.proofs.lemmas.List.Sums.{prefix_len-le-length, position_or_len_is, passes_at_first}
 use Rattle.std.proofs.lemmas.Map.Keys.{apart_from_distinct}
 use Rattle.std.proofs.lemmas.Option.{slice_get-map, unwrap_or-slice_get}
@@ -15,7 +15,8 @@ use Rattle.cn_base.specs.declared.ids.DeviceId.{DeviceId}
 use Rattle.cn_net.specs.Kept.{AreNamesOf, names_of}
 use Rattle.cn_net.specs.Network.{Network, IsDevice, name_of}
 use Rattle.cn_net.specs.Numbered.{number_in, place_of, texts}
-use Rattle.cn_net.proofs.Keys.{list_any-map, position_or_len-map}
+use Rattle.cn_net.specs.declared.device.Device.{Device}
+use Rattle.cn_net.proofs.Keys.{list_any-map, not_distinct, position_or_len-map}
 
 -- ---- what `position` says
 
@@ -181,3 +182,38 @@ name_pushed keys new k name b same added put fresh =
     let last : new ≡ keys ++ k ∷ [] = put ∙ ap (λ t. if t then keys else (keys ++ k ∷ [])) none in
     ap (map string_bytes) last ∙ map-append string_bytes keys (k ∷ [])
     ∙ ap (λ n. texts keys ++ n ∷ []) same
+
+-- ---- the index of distinct names, made again
+
+module _ (devices : List Device) (distinct : IsDistinct bytes_eq (names_of devices)) where
+  earlier_names : (i : ℕ) → names_of (take i devices) ≡ take i (names_of devices)
+  earlier_names i = sym (take-map (λ (d : Device). d.name) i devices)
+
+  unborne : (i : ℕ) (x : Device) → i < length devices
+      → list_any (bytes_eq (get_or devices i x).name) (names_of (take i devices)) ≡ false
+  unborne i x within =
+      let name : Device → List ℕ = λ d. d.name in
+      let names = names_of devices in
+      let many : length names ≡ length devices = length-map devices name in
+      let at : get_or names i [] ≡ (get_or devices i x).name =
+      get_or-map name devices i x [] within in
+      false_from_ne_true _ (λ t.
+      not_distinct nat_list_eq_equiv names i [] (omega arith)
+      ((λ j. list_any (bytes_eq (at j)) (sym (earlier_names i) j)) ∙ t) distinct)
+
+  -- the name of one more device
+  pub AreNamesOf-insert : {A : Type 0} (i : ℕ) (x : Device) (keys new : List (String A))
+      (k : String A)
+      → i < length devices → x ≡ get_or devices i x → string_bytes k ≡ x.name
+      → new ≡ insert_key string_eq keys k → AreNamesOf (take i devices) keys
+      → AreNamesOf (take (i + 1) devices) new
+  AreNamesOf-insert i x keys new k within is same put named =
+      let name : Device → List ℕ = λ d. d.name in
+      let none : list_any (string_eq k) keys ≡ false =
+      sym (text_stands keys k x.name same)
+      ∙ (λ j. list_any (bytes_eq (name (is j))) (named j))
+      ∙ unborne i x within in
+      name_pushed keys new k x.name true same (sym (ap not none)) put refl
+      ∙ (λ j. named j ++ name (is j) ∷ [])
+      ∙ sym (map-append name (take i devices) (get_or devices i x ∷ []))
+      ∙ ap (map name) (sym (take_more devices i x within))

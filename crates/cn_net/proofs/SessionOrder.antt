@@ -11,7 +11,7 @@ use Rattle.std.proofs.lemmas.List.Sums.{count_by-le-length, length-filter}
 use Rattle.cn_base.specs.declared.ids.DeviceId.{DeviceId}
 use Rattle.cn_net.specs.Islands.{holds_device}
 use Rattle.cn_net.specs.Network.{Network, IsDevice, device_ids, is_linked, peers_of}
-use Rattle.cn_net.specs.Sessions.{ArePlaces, AreStarts, Ascend, IsIndexed, by_sender, receivers_of, session_ends, sessions_from}
+use Rattle.cn_net.specs.Sessions.{ArePlaces, SessionsBegin, Ascend, IsIndexed, by_sender, receivers_of, session_ends, sessions_from}
 use Rattle.cn_net.specs.declared.sessions.SessionEnds.{SessionEnds}
 use Rattle.cn_net.proofs.Peers.{devices_ascend, length-device_ids, only_devices, peers_ascend}
 
@@ -173,7 +173,7 @@ module _ (net : Network) (emulated : List DeviceId) where
 pub index_made : (net : Network) (emulated : List DeviceId) (ends : List SessionEnds)
     (starts : List ℕ) (into : List (List ℕ)) (count : ℕ)
     → ends ≡ session_ends net emulated → count ≡ length net.devices
-    → length starts ≡ count + 1 → AreStarts ends starts
+    → length starts ≡ count + 1 → SessionsBegin ends starts
     → length into ≡ count → ArePlaces ends into
     → IsIndexed ends starts into
 index_made net emulated ends starts into count is all many begin lists places = record {

@@ -39,7 +39,8 @@ router_of net d = unwrap_or (option_map (λ x. x.id) (device_of net d)) (record 
 
 -- no two devices have one BGP Identifier
 abbrev pub HasDistinctIds : Network → Type 0
-HasDistinctIds net = (a b : DeviceId) → IsDevice net a → IsDevice net b → router_of net a ≡ router_of net b → a ≡ b
+HasDistinctIds net = (a b : DeviceId) → IsDevice net a → IsDevice net b
+    → router_of net a ≡ router_of net b → a ≡ b
 
 -- the ORIGIN with which a device with this body originates a prefix, and none where it doesn't
 abbrev pub own_of : Body → Cidr → Option Origin

@@ -55,7 +55,7 @@ Ascend ends = AllPairs (λ x y. by_sender x y ≡ Less) ends
 
 -- the place at which the sessions from each device begin: before it stand exactly those of devices
 -- with lesser numbers
-pub record AreStarts (ends : List SessionEnds) (starts : List ℕ) : Type 0 where
+pub record SessionsBegin (ends : List SessionEnds) (starts : List ℕ) : Type 0 where
   pub within : All (λ s. s ≤ length ends) starts
   pub before : (d k s : ℕ) (e : SessionEnds) → d < length starts → k < slice_index_or starts d s
       → (slice_index_or ends k e).from.0 < d
@@ -71,6 +71,6 @@ pub record IsIndexed (ends : List SessionEnds) (starts : List ℕ)
     (into : List (List ℕ)) : Type 0 where
   pub ascending : Ascend ends
   pub senders : All (λ e. e.from.0 + 1 < length starts) ends
-  pub begin : AreStarts ends starts
+  pub begin : SessionsBegin ends starts
   pub receivers : All (λ e. e.to.0 < length into) ends
   pub places : ArePlaces ends into

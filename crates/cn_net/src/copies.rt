@@ -1,10 +1,14 @@
-//! Equal devices, and equal parts of them.
+//! Equal devices, and equal parts of them and of a network.
 
 ghost use Rattle.std.specs.Prelude.{◌≡◌, IfOk};
+ghost use Rattle.std.specs.List.{IsDistinct};
+ghost use Rattle.std.specs.Str.{bytes_eq};
+ghost use Rattle.cn_net.specs.Kept.{AreNamesOf, names_of};
 
-use crate::device::{Body, Device, Peer, Policy};
+use crate::device::{Body, Device, Own, Peer, Policy};
 use cn_base::Items;
 use cn_plist::PrefixList;
+use indexmap::IndexSet;
 use std::alloc::{AllocError, Global};
 
 fn copied_list(alloc: Global, list: &Option<PrefixList>) -> Result<Option<PrefixList>, AllocError>
@@ -76,4 +80,38 @@ impl Device {
             body: self.body.copy(alloc)?,
         })
     }
+}
+
+/// Equal devices, in the same order.
+pub fn copied_devices(alloc: Global, devices: &[Device]) -> Result<Vec<Device>, AllocError>
+    ensures { IfOk result (λ v. v.items ≡ devices.now) }
+{
+    let mut copied = Vec::with_capacity(alloc, devices.len())?;
+    for device in devices {
+        copied.push(device.copy(alloc)?)?;
+    }
+    Ok(copied)
+}
+
+/// The index of the names of these devices, of which no two are equal.
+pub fn copied_names(alloc: Global, devices: &[Device]) -> Result<IndexSet<String>, AllocError>
+    requires distinct { IsDistinct bytes_eq (names_of devices.now) }
+    ensures { IfOk result (λ names. AreNamesOf devices.now names.keys) }
+{
+    let mut names = IndexSet::new(alloc);
+    for device in devices {
+        names.insert(String::from_str(alloc, device.name.text())?)?;
+    }
+    Ok(names)
+}
+
+/// Equal lists, in the same order.
+pub fn copied_lists(alloc: Global, lists: &[Items<Own>]) -> Result<Vec<Items<Own>>, AllocError>
+    ensures { IfOk result (λ v. v.items ≡ lists.now) }
+{
+    let mut copied = Vec::with_capacity(alloc, lists.len())?;
+    for list in lists {
+        copied.push(Items::make(Vec::from_slice(alloc, list.items())?))?;
+    }
+    Ok(copied)
 }

@@ -1,24 +1,26 @@
-//! The network: its devices and links as a value, the drafts that stand for networks, what devices offer
-//! and accept, and as definitions the candidates of a device and the best of them, stable states, islands,
-//! the certificate of a boundary and sound records.
+//! The network: its devices and links as a value, the drafts that stand for networks, what devices
+//! offer and accept, and as definitions the candidates of a device and the best of them, stable
+//! states, islands, the certificate of a boundary and sound records.
 //!
 //! A network is valid by its type: `specs/Valid.antt` says what that means, and `Net::make` is the
-//! one way to make one. It answers a network, or the fault of the draft (`specs/Faults.antt`). The crates
-//! above see a `Net` as the record of its devices and its links (`specs/Network.antt`), and a `Certified`,
-//! whose boundary is certified by its type, as an `Opening`. They cite `specs/Islands.antt` and
-//! `specs/Certificate.antt`, whose code stands in `cn_island` and `cn_cert`. `Net::link` and
-//! `Net::neighbours` find the links of a device by halving (`specs/Neighbours.antt`). The links are
-//! single-hop eBGP sessions of the fabrics of RFC 7938, section 5.
+//! one way to make one. It answers a network, or the fault of the draft (`specs/Faults.antt`). The
+//! crates above see a `Net` as the record of its devices and its links (`specs/Network.antt`), and
+//! a `Certified`, whose boundary is certified by its type, as an `Opening`. They cite
+//! `specs/Islands.antt` and `specs/Certificate.antt`, whose code stands in `cn_island` and
+//! `cn_cert`. `Net::link` and `Net::neighbours` find the links of a device by halving
+//! (`specs/Neighbours.antt`). The links are single-hop eBGP sessions of the fabrics of RFC 7938,
+//! section 5.
 //!
-//! `laws` says what follows from the definitions: a device's candidates have one best choice, a network has
-//! one stable state (`specs/OneState.antt`), and behind a certified boundary the emulated devices hold that
-//! state, however the outside devices would have reacted (`specs/Boundary.antt`). A rule of BGP stands in
-//! `specs/Exchange.antt` alone, and the laws use of it what `proofs/Offering.antt` and
-//! `proofs/Restricted.antt` prove.
+//! `laws` says what follows from the definitions: a device's candidates have one best choice, a
+//! network has one stable state (`specs/OneState.antt`), and behind a certified boundary the
+//! emulated devices hold that state, however the outside devices would have reacted
+//! (`specs/Boundary.antt`). A rule of BGP stands in `specs/Exchange.antt` alone, and the laws use
+//! of it what `proofs/Offering.antt` and `proofs/Restricted.antt` prove.
 #![tactic(auto)]
 
 pub mod alike;
 mod certified;
+pub mod changed;
 mod copies;
 mod device;
 mod draft;
@@ -29,6 +31,7 @@ mod limits;
 mod make;
 mod neighbours;
 mod net;
+mod originated;
 mod repeat;
 mod sessions;
 mod sets;

@@ -1,24 +1,28 @@
 //! The network as a value.
 
-ghost use Rattle.std.specs.Prelude.{◌≡◌, ◌≢◌, ◌<◌, ◌^◌, ◌↔◌, All, length, map, MatchOption, IfOk, IfErr};
+ghost use Rattle.std.specs.Prelude.{◌≡◌, ◌≢◌, ◌<◌, ◌^◌, ◌↔◌, All, length, map, position, set, slice_index_or, MatchOption, IfSome, IfOk, IfErr};
 ghost use Rattle.std.specs.List.{AllPairs, Any};
 ghost use Rattle.std.specs.Option.{option_copied};
 ghost use Rattle.cn_base.specs.declared.ids.DeviceId.{DeviceId};
+ghost use Rattle.cn_net.specs.Changed.{with_body, with_link, with_state};
 ghost use Rattle.cn_net.specs.Drafted.{IfFault, StandsForNone, draft_of};
 ghost use Rattle.cn_net.specs.Faults.{TellsFirst, fault_of};
 ghost use Rattle.cn_net.specs.Neighbours.{TellsOfLink};
-ghost use Rattle.cn_net.specs.Network.{IsDevice, IsLinked, asn_of, device_of, link_between, name_of, own_origin, peers_of, router_of};
+ghost use Rattle.cn_net.specs.Network.{IsDevice, IsLinked, asn_of, device_of, joins, link_between, name_of, own_origin, peers_of, router_of};
 ghost use Rattle.cn_net.specs.Valid.{IsValid};
 
-use crate::device::{Device, Link};
+use crate::copies::{copied_devices, copied_lists, copied_names};
+use crate::device::{Body, Device, Link, Own};
 use crate::draft::Draft;
 use crate::fault::NetAnswer;
 use crate::make::{few_parts, joined_links, numbered_devices};
-use crate::neighbours::{Neighbour, neighbours_of};
+use crate::neighbours::{Neighbour, neighbours_of, starts_of};
+use crate::originated::{by_prefix, origin_in, own_by_prefix};
 use crate::repeat::{distinct_devices, few_prefixes};
 use cn_base::{Asn, DeviceId, Items, Origin, Prefix, RouterId};
+use cn_lists::item_at;
 use indexmap::IndexSet;
-use std::alloc::Global;
+use std::alloc::{AllocError, Global};
 use std::marker::Model;
 
 /// A valid network. Contracts see its devices, each at the place that is its number, and its links.
@@ -28,6 +32,8 @@ pub struct Net {
     links: Items<Link>,
     names: IndexSet<String>,
     neighbours: Vec<Neighbour>,
+    starts: Vec<usize>,
+    own: Vec<Items<Own>>,
 }
 
 impl Model for Net {
@@ -38,7 +44,8 @@ impl Model for Net {
 
     ghost view = { λ n. record { devices = n.devices; links = n.links } };
 
-    ghost invariant = { λ n. IsKept (record { devices = n.devices; links = n.links }) n.names.keys n.neighbours.items };
+    ghost invariant = { λ n. IsKept (record { devices = n.devices; links = n.links })
+        n.names.keys n.neighbours.items n.starts.items n.own.items };
 }
 
 impl Net {
@@ -62,11 +69,100 @@ impl Net {
         let devices = numbered_devices(alloc, &names, drafts)?;
         let links = joined_links(alloc, &devices, &names, draft.links.items())?;
         let neighbours = neighbours_of(alloc, &links)?;
+        let starts = starts_of(alloc, &neighbours, devices.len())?;
+        let own = own_by_prefix(alloc, &devices)?;
         Ok(Net {
             devices: Items::make(devices),
             links: Items::make(links),
             names,
             neighbours,
+            starts,
+            own,
+        })
+    }
+
+    /// An equal network.
+    pub fn copy(&self, alloc: Global) -> Result<Net, AllocError>
+        ensures { IfOk result (λ net. net ≡ self.now) }
+    {
+        let devices = copied_devices(alloc, self.devices.items())?;
+        Ok(Net {
+            devices: Items::make(devices),
+            links: Items::make(Vec::from_slice(alloc, self.links.items())?),
+            names: copied_names(alloc, self.devices.items())?,
+            neighbours: Vec::from_slice(alloc, &self.neighbours)?,
+            starts: Vec::from_slice(alloc, &self.starts)?,
+            own: copied_lists(alloc, &self.own)?,
+        })
+    }
+
+    /// The network in which the link of two devices is up or down. All else is as it was. It takes
+    /// no memory.
+    pub fn with_link(self, a: DeviceId, b: DeviceId, up: bool) -> Net
+        requires linked { IsLinked self a b }
+        ensures { result ≡ with_link self a b up }
+    {
+        self.valid();
+        match self.place_between(a, b) {
+            Some(place) => self.with_state(place, up),
+            None => self,
+        }
+    }
+
+    /// The network in which the link at a place, in the order of the plan, is up or down.
+    fn with_state(self, place: usize, up: bool) -> Net
+        requires { place < length self.links }
+        ensures devices { result.devices ≡ self.devices }
+        ensures links { (l : Link) → result.links
+            ≡ set self.links place (with_state up (slice_index_or self.links place l)) }
+    {
+        let Net {
+            devices,
+            links,
+            names,
+            neighbours,
+            starts,
+            own,
+        } = self;
+        let mut links = links.into_vec();
+        links[place].up = up;
+        Net {
+            devices,
+            links: Items::make(links),
+            names,
+            neighbours,
+            starts,
+            own,
+        }
+    }
+
+    /// The network with another body of a device, as after a reload. All else is as it was. It
+    /// moves what it can, and takes memory for what that device originates alone.
+    pub fn with_body(self, alloc: Global, d: DeviceId, body: Body) -> Result<Net, AllocError>
+        requires device { IsDevice self d }
+        requires valid { IsValid (with_body self d body) }
+        ensures { IfOk result (λ net. net ≡ with_body self d body) }
+    {
+        let originated = by_prefix(alloc, body.own.items())?;
+        let Net {
+            devices,
+            links,
+            names,
+            neighbours,
+            starts,
+            mut own,
+        } = self;
+        let place = d.0 as usize;
+        let mut devices = devices.into_vec();
+        devices[place].body = body;
+        own[place] = originated;
+        Ok(Net {
+            devices: Items::make(devices),
+            links,
+            names,
+            neighbours,
+            starts,
+            own,
         })
     }
 
@@ -143,8 +239,8 @@ impl Net {
     pub fn own_origin(&self, d: DeviceId, prefix: &Prefix) -> Option<Origin>
         ensures { result ≡ own_origin self.now d prefix.now }
     {
-        match self.device(d) {
-            Some(device) => device.body.own_origin(prefix),
+        match self.own.get(d.0 as usize) {
+            Some(list) => origin_in(list.items(), prefix),
             None => None,
         }
     }
@@ -153,15 +249,22 @@ impl Net {
     pub fn link(&self, a: DeviceId, b: DeviceId) -> Option<bool>
         ensures { result ≡ link_between self.now a b }
     {
-        let found = self
-            .neighbours
-            .binary_search_by_key(&(a, b), |n| (n.of, n.device));
-        match found {
-            Ok(place) => {
-                let place = self.neighbours[place].link as usize;
-                Some(self.links.items()[place].up)
-            }
-            Err(_) => None,
+        match self.place_between(a, b) {
+            Some(place) => Some(self.links.items()[place].up),
+            None => None,
+        }
+    }
+
+    /// The place of the link of two devices, in the order of the plan. None comes exactly where
+    /// they aren't linked.
+    fn place_between(&self, a: DeviceId, b: DeviceId) -> Option<usize>
+        ensures place { result ≡ position (joins a b) self.now.links }
+        ensures within { IfSome result (λ place. place < length self.now.links) }
+    {
+        self.valid();
+        match item_at(self.neighbours(a), &b, |n| n.device) {
+            Some(seen) => Some(seen.link as usize),
+            None => None,
         }
     }
 
@@ -175,9 +278,12 @@ impl Net {
         ensures ascending { AllPairs (λ x y. x.device.0 < y.device.0) result.now }
         ensures peers { map (λ n. n.device) result.now ≡ peers_of self.now d }
     {
-        let end = self.neighbours.partition_point(|n| n.of <= d);
-        let front = &self.neighbours[..end];
-        let start = front.partition_point(|n| n.of < d);
-        &front[start..]
+        let place = d.0 as usize;
+        if place >= self.devices.len() {
+            return &[];
+        }
+        let start = self.starts[place];
+        let end = self.starts[place + 1];
+        &self.neighbours[start..end]
     }
 }

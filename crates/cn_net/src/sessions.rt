@@ -2,7 +2,7 @@
 
 ghost use Rattle.std.specs.Prelude.{◌≡◌, ◌≢◌, ◌↔◌, ℕ, ◌+◌, ◌<◌, ◌≤◌, ◌^◌, ◌++◌, [], true, All, IfOk, MatchOption, length, map, replicate, slice_get, slice_index_or};
 ghost use Rattle.cn_base.specs.declared.ids.DeviceId.{DeviceId as DeviceNumber};
-ghost use Rattle.cn_net.specs.Sessions.{ArePlaces, AreStarts, Ascend, comes_from, places_into, session_ends, sessions_from};
+ghost use Rattle.cn_net.specs.Sessions.{ArePlaces, SessionsBegin, Ascend, comes_from, places_into, session_ends, sessions_from};
 
 use crate::limits::session_count;
 use crate::net::Net;
@@ -163,7 +163,7 @@ fn starts_of(alloc: Global, ends: &[SessionEnds], count: u32) -> Result<Vec<u32>
     requires few { length ends.now < 2 ^ 32 }
     requires devices { count ≤ 4096 }
     requires ascending { Ascend ends.now }
-    ensures starts { IfOk result (λ starts. AreStarts ends.now starts.items) }
+    ensures starts { IfOk result (λ starts. SessionsBegin ends.now starts.items) }
     ensures count { IfOk result (λ starts. length starts.items ≡ count + 1) }
 {
     let mut starts = Vec::with_capacity(alloc, count as usize + 1)?;

@@ -1,6 +1,6 @@
 use Rattle.std.proofs.Common.{ltb, subst, sym, rules, arith}
 use Rattle.std.proofs.lemmas.List.Sorted.{IsPartitionPoint-from_clause, IsPartitionedBy-ltb}
-use Rattle.cn_net.specs.Sessions.{AreStarts}
+use Rattle.cn_net.specs.Sessions.{SessionsBegin}
 use Rattle.cn_net.specs.declared.sessions.SessionEnds.{SessionEnds}
 use Rattle.cn_net.proofs.Indexing.{starts_more}
 use Rattle.cn_net.proofs.SessionOrder.{senders_rise}
@@ -20,7 +20,7 @@ loop-device-preserved c =
     (λ a r q k. search rules) in
     let put = c.in_ok-push.ensures.items in
     record {
-      begin = subst (AreStarts ends) (sym put)
+      begin = subst (SessionsBegin ends) (sym put)
           (starts_more ends starts d s c.loop-device.invariant.many c.loop-device.invariant.begin
           c.partition_point-start.ensures.bound parted);
       many = omega (arith, c.in_ok-push.ensures.len, c.loop-device.invariant.many);

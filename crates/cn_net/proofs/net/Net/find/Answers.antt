@@ -1,20 +1,20 @@
 use Rattle.std.proofs.Common.{subst}
-use Rattle.cn_net.specs.Kept.{IsKept}
+use Rattle.cn_net.specs.Kept.{AreNamesOf}
+use Rattle.cn_net.specs.Valid.{IsValid}
 use Rattle.cn_net.proofs.Places.{found, missing}
 use Rattle.cn_net.proofs.net.Net.find.Goals as goal
 
 pub returns-in-Some : goal.returns-in-Some
 returns-in-Some c =
-    let kept : IsKept c.args.self.now c.self.inside.names.keys c.self.inside.neighbours.items =
-    subst (λ n. IsKept n c.self.inside.names.keys c.self.inside.neighbours.items) c.self.view_is
-    c.self.invariant in
-    found c.args.self.now c.self.inside.names.keys kept.named c.args.name.now c.in-Some.place
-    c.in-Some.ensures.index
+    let keys = c.self.inside.names.keys in
+    found c.args.self.now keys
+    (subst (λ n. AreNamesOf n.devices keys) c.self.view_is c.self.invariant.named) c.args.name.now
+    c.in-Some.place c.in-Some.ensures.index
 
 pub returns-in-None : goal.returns-in-None
 returns-in-None c =
-    let kept : IsKept c.args.self.now c.self.inside.names.keys c.self.inside.neighbours.items =
-    subst (λ n. IsKept n c.self.inside.names.keys c.self.inside.neighbours.items) c.self.view_is
-    c.self.invariant in
-    missing c.args.self.now c.self.inside.names.keys kept.named kept.valid.names c.args.name.now
+    let keys = c.self.inside.names.keys in
+    missing c.args.self.now keys
+    (subst (λ n. AreNamesOf n.devices keys) c.self.view_is c.self.invariant.named)
+    (subst IsValid c.self.view_is c.self.invariant.valid).names c.args.name.now
     c.in-None.ensures.index

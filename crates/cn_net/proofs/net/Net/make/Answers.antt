@@ -1,11 +1,11 @@
-use Rattle.std.proofs.Common.{◌≡◌, ◌∙◌, ap, map, None, subst, sym}
+use Rattle.std.proofs.Common.{◌≡◌, ◌∙◌, All, ap, arith, length, map, None, subst, sym}
 use Rattle.std.proofs.lemmas.Result.{err_from_is_err_and}
 use Rattle.cn_net.specs.Drafted.{draft_of}
 use Rattle.cn_net.specs.Faults.{device_fault, first_in, link_fault, parts_fault, peers_fault, prefixes_fault}
-use Rattle.cn_net.specs.Kept.{AreNamesOf, names_of}
-use Rattle.cn_net.specs.Neighbours.{AreNeighbours}
+use Rattle.cn_net.specs.Kept.{AreNamesOf, AreOwn, names_of}
+use Rattle.cn_net.specs.Neighbours.{AreNeighbours, AreStarts}
 use Rattle.cn_net.specs.Numbered.{device_made, link_made, texts, written_names}
-use Rattle.cn_net.specs.Valid.{IsValid}
+use Rattle.cn_net.specs.Valid.{IsValid, OriginatesOnce}
 use Rattle.cn_net.proofs.Faultless.{AreJoined, links_joined}
 use Rattle.cn_net.proofs.First.{told_as}
 use Rattle.cn_net.proofs.Making.{IsFaultless, devices_of, devices_told, ends_apart, links_of, links_told, no_fault, none_told, parts_of, parts_told, peers_of, peers_told, prefixes_of, prefixes_told, reads_back, valid_made}
@@ -70,15 +70,15 @@ are_joined c =
 
 -- ---- the network, where no step found one
 
-faultless : (c : After-make-2) → IsFaultless c.args.draft.now
+faultless : (c : After-deref-2) → IsFaultless c.args.draft.now
 faultless c =
-    let at = goal.at.returns-clause-ok c in
+    let at = goal.at.neighbours_of-requires-clause-apart c in
     record {
       parts = parts_none at.After-items-drafts;
       devices = devices_none at.In_ok-names;
       prefixes = prefixes_none at.After-items;
       peers = peers_none at.After-items;
-      links = links_none at.After-deref-2;
+      links = links_none c;
     }
 
 devices_are : (c : After-make-2) → c.make.result ≡ c.deref.result.now
@@ -188,21 +188,48 @@ neighbours_of-requires-clause-apart c =
 pub neighbours_of-requires-clause-one_link : goal.neighbours_of-requires-clause-one_link
 neighbours_of-requires-clause-one_link c = (are_joined c).one_link
 
+pub own_by_prefix-requires : goal.own_by_prefix-requires
+own_by_prefix-requires c =
+    let at = goal.at.own_by_prefix-requires c in
+    let draft = c.args.draft.now in
+    let devices : c.deref-4.result.now ≡ devices_made draft =
+    c.deref-4.ensures.value ∙ sym c.deref.ensures.value ∙ made at.After-items in
+    record {
+      once =
+          subst (λ ds. All (λ d. OriginatesOnce d.body) ds) (sym devices)
+          (valid_made draft (faultless at.After-deref-2)).own;
+    }
+
 pub invariant_of-result : goal.invariant_of-result
 invariant_of-result c =
     let at = goal.at.invariant_of-result c in
     let here = at.After-make-2 in
     let neighbours = c.in_ok-neighbours in
+    let starts = c.in_ok-starts.starts.items in
+    let many : c.len-3.result ≡ length c.make.result =
+    omega (arith, ap length c.make.ensures, c.len-3.ensures, c.in_ok-devices.devices.ok) in
     record {
-      valid = subst IsValid (sym (net_is here)) (valid_made c.args.draft.now (faultless here));
+      valid =
+          subst IsValid (sym (net_is here))
+          (valid_made c.args.draft.now (faultless at.After-deref-2));
       named = bear_names at.After-items ∙ ap names_of (sym (devices_are here));
       joined =
           subst (λ ls. AreNeighbours ls neighbours.neighbours.items) (sym (links_are here))
           neighbours.ensures;
+      begun =
+          subst (λ list. AreStarts (length c.make.result) list starts) c.deref-3.ensures.value
+          (subst (λ k. AreStarts k c.deref-3.result.now starts) many c.in_ok-starts.ensures);
+      originated =
+          subst (λ ds. AreOwn ds c.in_ok-own.own.items)
+          (c.deref-4.ensures.value ∙ sym c.make.ensures) c.in_ok-own.ensures;
     }
 
 pub returns-clause-ok : goal.returns-clause-ok
-returns-clause-ok c = ap draft_of (net_is c) ∙ reads_back c.args.draft.now (faultless c)
+returns-clause-ok c =
+    let at = goal.at.returns-clause-ok c in
+    ap draft_of (net_is c) ∙ reads_back c.args.draft.now (faultless at.After-deref-2)
 
 pub returns-clause-first : goal.returns-clause-first
-returns-clause-first c = no_fault c.args.draft.now (faultless c)
+returns-clause-first c =
+    let at = goal.at.returns-clause-first c in
+    no_fault c.args.draft.now (faultless at.After-deref-2)

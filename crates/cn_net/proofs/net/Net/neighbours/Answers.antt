@@ -1,44 +1,94 @@
-use Rattle.std.proofs.Common.{◌≡◌, ◌∙◌, ◌≤◌, List, arith, false, true, leb, length, ltb, rules, slice_range, subst, sym, take}
-use Rattle.std.specs.List.Sorted.{IsPartitionPoint, IsPartitionedBy}
-use Rattle.std.proofs.lemmas.List.Sorted.{IsPartitionPoint-from_clause, IsPartitionedBy-leb, IsPartitionedBy-ltb}
-use Rattle.std.proofs.lemmas.Slice.{between_to_end}
-use Rattle.cn_net.specs.Kept.{IsKept}
-use Rattle.cn_net.specs.declared.neighbours.Neighbour.{Neighbour}
-use Rattle.cn_net.proofs.Peers.{peers_seen}
-use Rattle.cn_net.proofs.Parts.{IsPart, all_of, ends_rise, front_rises, part_ascends, part_linked, part_made}
+use Rattle.std.proofs.Common.{◌≡◌, ◌≤◌, [], arith, ap, length, rules, slice_range, subst, sym}
+use Rattle.cn_net.specs.Neighbours.{AreNeighbours, AreStarts}
+use Rattle.cn_net.specs.Valid.{IsValid}
+use Rattle.cn_net.proofs.Parts.{IsPart, IsPart-kept, all_of, part_ascends, part_linked}
+use Rattle.cn_net.proofs.Peers.{linked_devices, peers_seen}
 use Rattle.cn_net.proofs.net.Net.neighbours.Goals as goal
+use Rattle.cn_net.proofs.net.Net.neighbours.Goals.{After-deref}
 
-kept : (c : goal.After-result-1) → IsKept c.args.self.now c.self.inside.names.keys c.deref-2.result.now
-kept c =
-    let list = c.self.inside.neighbours.items in
-    let inside : IsKept c.args.self.now c.self.inside.names.keys list = subst (λ n. IsKept n c.self.inside.names.keys list) c.self.view_is c.self.invariant in
-    subst (IsKept c.args.self.now c.self.inside.names.keys) (sym c.deref-2.ensures.value) inside
+pub returns-then-place-len-clause-linked : goal.returns-then-place-len-clause-linked
+returns-then-place-len-clause-linked c =
+    let net = c.args.self.now in
+    let valid : IsValid net = subst IsValid c.self.view_is c.self.invariant.valid in
+    let many : length c.self.inside.devices ≡ length net.devices =
+    ap (λ n. length n.devices) c.self.view_is in
+    λ b. (
+      λ (k, x, lt, is, to). absurd (omega arith),
+      λ linked.
+          let within = (linked_devices net c.args.d b valid linked).0 in
+          absurd (omega arith),
+    )
 
-cut : (c : goal.After-result-1) → IsPart c.args.d c.deref-2.result.now (slice_range (take c.partition_point-end.result c.deref-2.result.now) c.partition_point-start.result (length (take c.partition_point-end.result c.deref-2.result.now))) c.partition_point-start.result c.partition_point-end.result
+pub returns-then-place-len-clause-peers : goal.returns-then-place-len-clause-peers
+returns-then-place-len-clause-peers c =
+    let net = c.args.self.now in
+    let valid : IsValid net = subst IsValid c.self.view_is c.self.invariant.valid in
+    peers_seen net c.args.d [] valid (λ i j x lt within. absurd (omega arith))
+    (returns-then-place-len-clause-linked c)
+
+cut : (c : After-deref) → IsPart c.args.d c.deref.result.now
+    (slice_range c.deref.result.now c.index-start.result.now c.index-end.result.now)
+    c.index-start.result.now c.index-end.result.now
 cut c =
-    let d = c.args.d in
-    let list : List Neighbour = c.deref-2.result.now in
-    let s = c.partition_point-start.result in
-    let e = c.partition_point-end.result in
-    let front : List Neighbour = take e list in
-    let up = (kept c).joined.ascending in
-    let here : c.deref.result.now ≡ list = c.deref.ensures.value ∙ sym c.deref-2.ensures.value in
-    let le : e ≤ length list = subst (λ l. e ≤ length l) here c.partition_point-end.ensures.bound in
-    let rises = subst (λ l. IsPartitionPoint (λ n. leb n.of.0 d.0 ≡ true) (λ n. leb n.of.0 d.0 ≡ false) l e) here
-    (IsPartitionPoint-from_clause (λ n. leb n.of.0 d.0) c.deref.result.now e c.partition_point-end.ensures.partitioned
-    (subst (λ l. IsPartitionedBy (λ n. leb n.of.0 d.0) l) (sym here) (IsPartitionedBy-leb (λ n. n.of.0) list d.0 (ends_rise list up))) (λ a r q k. search rules)) in
-    let starts = IsPartitionPoint-from_clause (λ n. ltb n.of.0 d.0) front s c.partition_point-start.ensures.partitioned
-    (IsPartitionedBy-ltb (λ n. n.of.0) front d.0 (ends_rise front (front_rises list e le up))) (λ a r q k. search rules) in
-    subst (λ part. IsPart d list part s e) (sym (between_to_end front s (length front) (omega arith))) (part_made d list s e le c.partition_point-start.ensures.bound rises starts)
+    let net = c.args.self.now in
+    let starts = c.self.inside.starts.items in
+    let begun : AreStarts (length net.devices) c.self.inside.neighbours.items starts =
+    subst (λ n. AreStarts (length n.devices) c.self.inside.neighbours.items starts) c.self.view_is
+    c.self.invariant.begun in
+    let many : length c.self.inside.devices ≡ length net.devices =
+    ap (λ n. length n.devices) c.self.view_is in
+    IsPart-kept (length net.devices) c.args.d c.deref.result.now starts c.index-start.result.now
+    c.index-end.result.now
+    (subst (λ list. AreStarts (length net.devices) list starts) (sym c.deref.ensures.value) begun)
+    (omega arith) c.index-start.ensures c.index-end.ensures
+
+joined : (c : After-deref) → AreNeighbours c.args.self.now.links c.deref.result.now
+joined c =
+    subst (AreNeighbours c.args.self.now.links) (sym c.deref.ensures.value)
+    (subst (λ n. AreNeighbours n.links c.self.inside.neighbours.items) c.self.view_is
+    c.self.invariant.joined)
+
+valid : (c : After-deref) → IsValid c.args.self.now
+valid c = subst IsValid c.self.view_is c.self.invariant.valid
+
+pub offset_bounds-deref-start : goal.offset_bounds-deref-start
+offset_bounds-deref-start c =
+    let part = cut c in
+    let many = part.many in
+    let end : c.index-end.result.now ≤ length c.deref.result.now = part.end in
+    let start : c.index-start.result.now ≤ c.index-end.result.now = omega arith in
+    search rules
+
+pub slice_bounds-result-count : goal.slice_bounds-result-count
+slice_bounds-result-count c = let part = cut c in let many = part.many in omega arith
+
+pub slice_bounds-result-start : goal.slice_bounds-result-start
+slice_bounds-result-start c =
+    let part = cut c in
+    let many = part.many in
+    let end : c.index-end.result.now ≤ length c.deref.result.now = part.end in
+    let start : c.index-start.result.now ≤ c.index-end.result.now = omega arith in
+    search rules
 
 pub returns-clause-of : goal.returns-clause-of
-returns-clause-of c = all_of c.args.d c.deref-2.result.now _ c.partition_point-start.result c.partition_point-end.result (cut c)
+returns-clause-of c =
+    let at = (goal.at.returns-clause-of c).After-deref in
+    all_of c.args.d c.deref.result.now _ c.index-start.result.now c.index-end.result.now (cut at)
 
 pub returns-clause-linked : goal.returns-clause-linked
-returns-clause-linked c = λ b. part_linked c.args.self.now.links c.args.d b c.deref-2.result.now _ c.partition_point-start.result c.partition_point-end.result (kept c).valid.one_link (kept c).joined (cut c)
+returns-clause-linked c =
+    let at = (goal.at.returns-clause-linked c).After-deref in λ b.
+    part_linked c.args.self.now.links c.args.d b c.deref.result.now _ c.index-start.result.now
+    c.index-end.result.now (valid at).one_link (joined at) (cut at)
 
 pub returns-clause-ascending : goal.returns-clause-ascending
-returns-clause-ascending c = part_ascends c.args.d c.deref-2.result.now _ c.partition_point-start.result c.partition_point-end.result (kept c).joined.ascending (cut c)
+returns-clause-ascending c =
+    let at = (goal.at.returns-clause-ascending c).After-deref in
+    part_ascends c.args.d c.deref.result.now _ c.index-start.result.now c.index-end.result.now
+    (joined at).ascending (cut at)
 
 pub returns-clause-peers : goal.returns-clause-peers
-returns-clause-peers c = peers_seen c.args.self.now c.args.d _ (kept c).valid (returns-clause-ascending c) (returns-clause-linked c)
+returns-clause-peers c =
+    let at = (goal.at.returns-clause-peers c).After-deref in
+    peers_seen c.args.self.now c.args.d _ (valid at) (returns-clause-ascending c)
+    (returns-clause-linked c)

@@ -1,7 +1,7 @@
 use Rattle.std.proofs.Common.{ℕ, ◌<◌, ◌^◌, Vec, Global, length, map, sym, subst, ◌∙◌, arith}
 use Rattle.std.specs.List.{All}
 use Rattle.std.proofs.lemmas.List.{length-map}
-use Rattle.cn_net.specs.Sessions.{ArePlaces, AreStarts, Ascend}
+use Rattle.cn_net.specs.Sessions.{ArePlaces, SessionsBegin, Ascend}
 use Rattle.cn_net.specs.declared.sessions.SessionEnds.{SessionEnds}
 use Rattle.cn_net.proofs.SessionOrder.{ends_ascend, few_sessions, index_made, receivers_within}
 use Rattle.cn_net.proofs.sessions.SessionIndex.make.Goals as goal
@@ -39,7 +39,7 @@ invariant_of-result c =
     index_made net c.args.emulated.now c.in_ok-ends.ends.items c.in_ok-starts.starts.items
     (map items c.in_ok-into.into.items) count c.in_ok-ends.ensures many
     (omega (arith, c.in_ok-starts.ensures.count))
-    (subst (λ es. AreStarts es c.in_ok-starts.starts.items) c.as_slice.ensures.value
+    (subst (λ es. SessionsBegin es c.in_ok-starts.starts.items) c.as_slice.ensures.value
     c.in_ok-starts.ensures.starts)
     (length-map c.in_ok-into.into.items items ∙ c.in_ok-into.ensures.count)
     (subst (λ es. ArePlaces es (map items c.in_ok-into.into.items)) c.as_slice-2.ensures.value
