@@ -4,7 +4,7 @@ use Rattle.std.proofs.Common.{◌≡◌, ℕ, zero, suc, ◌&&◌, Bool, true, f
 use Rattle.std.proofs.lemmas.Bool.{and_parts, false_from_ne_true, true≢false}
 use Rattle.std.proofs.lemmas.List.{length-set}
 use Rattle.cn_base.specs.declared.ids.DeviceId.{DeviceId}
-use Rattle.cn_net.specs.Alike.{DifferInside, DifferInUp, HaveSameEnds, IsLinkInside, ends_of}
+use Rattle.cn_net.specs.Alike.{DifferInside, HaveSameEnds, IsLinkInside, ends_of}
 use Rattle.cn_net.specs.Changed.{reloaded, with_body, with_link, with_state}
 use Rattle.cn_net.specs.Network.{Network, device_of, joins}
 use Rattle.cn_net.specs.declared.device.Body.{Body}
@@ -61,10 +61,6 @@ module _ (a b : DeviceId) (up : Bool) where
 pub link_keeps_ends : (net : Network) (a b : DeviceId) (up : Bool)
     → HaveSameEnds net (with_link net a b up)
 link_keeps_ends net a b up = record { devices = refl; links = all_ends_stay a b up net.links }
-
-pub link_differs_in_up : (net : Network) (a b : DeviceId) (up : Bool)
-    → DifferInUp net (with_link net a b up)
-link_differs_in_up net a b up = record { devices = refl; links = all_ends_stay a b up net.links }
 
 pub link_inside : (net : Network) (outside : DeviceId → Bool) (a b : DeviceId) (up : Bool)
     → IsLinkInside outside a b → DifferInside net (with_link net a b up) outside

@@ -27,7 +27,7 @@ range_more n =
     rw add-one (range_suc 0 n ∙ ap (λ k. range_with_len 0 n ++ k ∷ []) e)
 
 -- the devices with the first so many numbers
-pub ids : ℕ → List DeviceId
+unfoldable pub ids : ℕ → List DeviceId
 ids n = map (λ k. record { 0 = k }) (range_with_len 0 n)
 
 pub all_ids : (net : Network) → ids (length net.devices) ≡ device_ids net

@@ -1,11 +1,9 @@
 //! Laws on what makes no difference to a boundary, to the sessions or to records. Each function
-//! does
-//! nothing; its contract is the law.
+//! does nothing; its contract is the law.
 
 ghost use Rattle.std.specs.Prelude.{◌≡◌, ◌↔◌, Bool, List, Option};
 ghost use Rattle.cn_base.specs.declared.ids.DeviceId.{DeviceId};
 ghost use Rattle.cn_net.specs.Alike.{ChangesKeepEnds, ChangesStayInside, DifferInUp, DifferInside, HaveBoundariesAlike, HaveRecordsAlike, HaveSameEnds};
-ghost use Rattle.cn_net.specs.Changed.{with_link};
 ghost use Rattle.cn_net.specs.Certificate.{IsCertified};
 ghost use Rattle.cn_net.specs.Islands.{HaveSameIslands};
 ghost use Rattle.cn_net.specs.Network.{Network};
@@ -25,8 +23,7 @@ pub fn labels_change_no_certificate()
 {}
 
 /// Which sessions there are is said by the ends of the links and the number of the devices: they
-/// are
-/// the same whichever links are up, and whatever the devices are.
+/// are the same whichever links are up, and whatever the devices are.
 pub fn ends_make_sessions()
     ensures { (net net' : Network) (emulated : List DeviceId)
         → HaveSameEnds net net' → session_ends net emulated ≡ session_ends net' emulated }
@@ -38,12 +35,6 @@ pub fn ends_make_sessions()
 pub fn inside_changes_no_records()
     ensures { (net net' : Network) (outside : DeviceId → Bool)
         → DifferInside net net' outside → HaveRecordsAlike net net' outside }
-{}
-
-/// A link that goes down, comes up or is reset changes nothing but whether it is up.
-pub fn links_change_in_up()
-    ensures { (net : Network) (a b : DeviceId) (up : Bool)
-        → DifferInUp net (with_link net a b up) }
 {}
 
 /// No change of a link or of a device's configuration changes an end of a link or how many devices

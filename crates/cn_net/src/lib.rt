@@ -7,9 +7,17 @@
 //! crates above see a `Net` as the record of its devices and its links (`specs/Network.antt`), and
 //! a `Certified`, whose boundary is certified by its type, as an `Opening`. They cite
 //! `specs/Islands.antt` and `specs/Certificate.antt`, whose code stands in `cn_island` and
-//! `cn_cert`. `Net::link` and `Net::neighbours` find the links of a device by halving
-//! (`specs/Neighbours.antt`). The links are single-hop eBGP sessions of the fabrics of RFC 7938,
-//! section 5.
+//! `cn_cert`. `Net::neighbours` takes the links of a device from the place where they are kept to
+//! begin, `Net::link` halves among these, and `Net::own_origin` among what the device originates
+//! (`specs/Neighbours.antt`, `specs/Kept.antt`). A `SessionIndex` has the directed sessions of an
+//! emulation in order, and where those from and into each device stand (`specs/Sessions.antt`).
+//! The links are single-hop eBGP sessions of the fabrics of RFC 7938, section 5.
+//!
+//! A network changes as a value: `Net::with_link` and `Net::with_body` give the network after a
+//! link went up or down and after a device was reloaded (`specs/Changed.antt`), and `Net::copy` an
+//! equal one. `changed` has the laws on what such a change is, and `alike` those on what it leaves
+//! as it was (`specs/Alike.antt`): islands and the certificate where links go down or come up, the
+//! sessions where the links have the same ends, and sound records where nothing changes outside.
 //!
 //! `laws` says what follows from the definitions: a device's candidates have one best choice, a
 //! network has one stable state (`specs/OneState.antt`), and behind a certified boundary the

@@ -1,8 +1,11 @@
 //! The directed sessions that an emulation keeps. Each has a place, and is found by either end.
 
-ghost use Rattle.std.specs.Prelude.{◌≡◌, ◌≢◌, ◌↔◌, ℕ, ◌+◌, ◌<◌, ◌≤◌, ◌^◌, ◌++◌, [], true, All, IfOk, MatchOption, length, map, replicate, slice_get, slice_index_or};
+ghost use Rattle.std.specs.Prelude.{◌≡◌, ◌≢◌, ◌↔◌, ℕ, ◌+◌, ◌<◌, ◌≤◌, ◌^◌, ◌++◌, [], true, All, IfOk, List, MatchOption, length, map, replicate, slice_get, slice_index_or};
 ghost use Rattle.cn_base.specs.declared.ids.DeviceId.{DeviceId as DeviceNumber};
+ghost use Rattle.cn_net.specs.Limits.{session_count};
+ghost use Rattle.cn_net.specs.Network.{Network};
 ghost use Rattle.cn_net.specs.Sessions.{ArePlaces, SessionsBegin, Ascend, comes_from, places_into, session_ends, sessions_from};
+ghost use Rattle.cn_net.specs.Valid.{IsValid};
 
 use crate::limits::session_count;
 use crate::net::Net;
@@ -199,3 +202,9 @@ fn into_of(alloc: Global, ends: &[SessionEnds], count: u32) -> Result<Vec<Vec<u3
     }
     Ok(into)
 }
+
+/// There are as many sessions as the links have emulated ends.
+pub fn sessions_are_counted()
+    ensures { (net : Network) (emulated : List DeviceNumber) → IsValid net
+        → length (session_ends net emulated) ≡ session_count net emulated }
+{}
