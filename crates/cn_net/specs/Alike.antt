@@ -47,9 +47,8 @@ abbrev pub links_outside : (DeviceId → Bool) → Network → List Link
 links_outside outside net = filter (λ l. outside l.a && outside l.b) net.links
 
 -- Each outside device is the same, and so are the links between two of them, up or down. An
--- emulated
--- device may be another in one than in the other, and a link with an emulated end may be up in one
--- and down in the other.
+-- emulated device may be another in one than in the other, and a link with an emulated end may be
+-- up in one and down in the other.
 pub record DifferInside (net net' : Network) (outside : DeviceId → Bool) : Type 0 where
   pub ends : HaveSameEnds net net'
   pub devices : (d : DeviceId) → outside d ≡ true → device_of net d ≡ device_of net' d

@@ -1,6 +1,5 @@
 -- The directed sessions that an emulation keeps: one for each direction of a link, up or down,
--- whose
--- receiver is emulated (RFC 4271, 3; a session here is one direction).
+-- whose receiver is emulated (RFC 4271, 3; a session here is one direction).
 use Rattle.std.specs.Prelude.{◌≡◌, ℕ, ◌+◌, ◌<◌, ◌≤◌, Bool, false, List, [], length, option_map, slice_get, slice_index_or, unwrap_or, map}
 use Rattle.std.specs.List.{All, AllPairs, filter, flat_map, range_with_len}
 use Rattle.std.specs.Ordering.{nat_cmp, on, then_cmp}

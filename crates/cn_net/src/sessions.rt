@@ -60,8 +60,7 @@ impl SessionIndex {
     }
 
     /// Does nothing: the sessions ascend by (from, to) by their type, and none stands twice. A
-    /// proof
-    /// that needs to know so cites this call.
+    /// proof that needs to know so cites this call.
     pub fn valid(&self)
         ensures { Ascend self.now }
     {
