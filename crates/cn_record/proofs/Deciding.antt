@@ -27,7 +27,7 @@ use Rattle.cn_net.proofs.Chains.{linked_back}
 use Rattle.cn_net.proofs.Deciding as deciding
 use Rattle.cn_net.proofs.Offering.{offer-gives, offer-longer, offer_of-gives}
 use Rattle.cn_net.proofs.Restricted.{up_linked}
-use Rattle.cn_record.specs.Tables.{decided, heard, heard_ranked, held_of, is_unbeaten, shortest_rank}
+use Rattle.cn_record.specs.Tables.{decided, candidate_from, ranked_candidate, held_of, no_offer_outranks, shortest_rank}
 
 -- ---- nothing more
 
@@ -52,27 +52,28 @@ longer_last false m n l o le h = refl
 never_before : (net : Network) (best : Rank) (c : Choice) (a : DeviceId) (r : Route)
     → not (ranks_before (shortest_rank net a c) best) ≡ true → length c.path < length r.path
     → r.origin ≡ c.origin → ranks_before (rank_of net (choice_from a r)) best ≡ false
-never_before net best c a r unbeaten longer origin =
+never_before net best c a r behind longer origin =
     let last : Origin → Ordering = λ q. ordering_then
     (nat_cmp (origin_code q) (origin_code best.origin))
     (nat_cmp (router_of net a).0 best.sender.0) in
     let first : Origin → Bool = λ q. is_lt (ordering_then (bool_cmp true best.learnt)
     (ordering_then (nat_cmp (min (length c.path + 1) 255) best.length) (last q))) in
     longer_last best.learnt (min (length c.path + 1) 255) (length r.path) best.length
-    (last r.origin) (omega arith) (ap first origin ∙ not-true _ unbeaten)
+    (last r.origin) (omega arith) (ap first origin ∙ not-true _ behind)
 
 module _ (net : Network) (p : Cidr) (table : List (Option Choice)) (d a : DeviceId) where
   -- a device that holds nothing offers nothing
-  unheard : held_of table a p ≡ None → heard net p table d a ≡ None
+  candidate_from-held_none : held_of table a p ≡ None → candidate_from net p table d a ≡ None
   unfolding offer_of
-  unheard e = ap (usable net d a) (ap (offer_of net a d p) e) ∙ deciding.usable-none net d a
+  candidate_from-held_none e =
+      ap (usable net d a) (ap (offer_of net a d p) e) ∙ deciding.usable-none net d a
 
   -- where the neighbour holds nothing
   pub better-held_none : (best : Option (Ranked Choice)) (x : Option Choice) → a.0 < length table
-      → x ≡ get_or table a.0 x → x ≡ None → best ≡ better best (heard_ranked net p table d a)
+      → x ≡ get_or table a.0 x → x ≡ None → best ≡ better best (ranked_candidate net p table d a)
   better-held_none best x within at none =
       adds_nothing net best _
-      (unheard (get_or_default table a.0 None x within ∙ sym at ∙ none))
+      (candidate_from-held_none (get_or_default table a.0 None x within ∙ sym at ∙ none))
 
   module _ (best : Option (Ranked Choice)) (x : Option Choice) (c : Choice)
       (within : a.0 < length table) (at : x ≡ get_or table a.0 x) (is : x ≡ Some c) where
@@ -86,13 +87,13 @@ module _ (net : Network) (p : Cidr) (table : List (Option Choice)) (d a : Device
     -- where this is what it offers
     pub better-offered : (o : Option Route) → o ≡ offer net a d (route_of p c)
         → better best (beside_rank net (usable net d a o))
-        ≡ better best (heard_ranked net p table d a)
+        ≡ better best (ranked_candidate net p table d a)
     better-offered o e =
         ap (λ z. better best (beside_rank net (usable net d a z))) (e ∙ sym offer_is)
 
     -- where it offers nothing
     pub better-not_offered : None ≡ offer net a d (route_of p c)
-        → best ≡ better best (heard_ranked net p table d a)
+        → best ≡ better best (ranked_candidate net p table d a)
     better-not_offered e =
         adds_nothing net best _
         (ap (usable net d a) (offer_is ∙ sym e) ∙ deciding.usable-none net d a)
@@ -107,18 +108,18 @@ module _ (net : Network) (p : Cidr) (table : List (Option Choice)) (d a : Device
 
     -- where what it holds went through the device's AS number
     pub better-loop : holds_asn c.path (asn_of net d) ≡ true
-        → best ≡ better best (heard_ranked net p table d a)
+        → best ≡ better best (ranked_candidate net p table d a)
     better-loop h =
         adds_nothing net best _ (ap (usable net d a) offer_is ∙ looped _ h refl)
 
   -- an offer that can't win changes nothing
-  unbeaten : (b : Ranked Choice) (c : Choice) (o : Option Route)
+  better-behind : (b : Ranked Choice) (c : Choice) (o : Option Route)
       → not (ranks_before (shortest_rank net a c) b.rank) ≡ true
       → offer net a d (route_of p c) ≡ o
       → better (Some b) (beside_rank net (usable net d a o)) ≡ Some b
   unfolding usable outranks_by
-  unbeaten b c None h e = refl
-  unbeaten b c (Some r) h e =
+  better-behind b c None h e = refl
+  better-behind b c (Some r) h e =
       let given = offer-gives net a d (route_of p c) r e in
       let longer = offer-longer net a d (route_of p c) r given in
       let next = choice_from a r in
@@ -132,14 +133,15 @@ module _ (net : Network) (p : Cidr) (table : List (Option Choice)) (d a : Device
       ]
 
   -- where no offer of what it holds outranks the best so far
-  pub better-unbeaten : (best : Option (Ranked Choice)) (x : Option Choice) (c : Choice)
+  pub better-no_offer_outranks : (best : Option (Ranked Choice)) (x : Option Choice) (c : Choice)
       → a.0 < length table → x ≡ get_or table a.0 x → x ≡ Some c
-      → is_unbeaten net best a c ≡ true → best ≡ better best (heard_ranked net p table d a)
-  better-unbeaten None x c within at is h = absurd (let never : false ≡ true = h in cc)
-  better-unbeaten (Some b) x c within at is h =
+      → no_offer_outranks net best a c ≡ true
+      → best ≡ better best (ranked_candidate net p table d a)
+  better-no_offer_outranks None x c within at is h = absurd (let never : false ≡ true = h in cc)
+  better-no_offer_outranks (Some b) x c within at is h =
       sym (ap (λ z. better (Some b) (beside_rank net (usable net d a z)))
       (offer_is (Some b) x c within at is)
-      ∙ unbeaten b c (offer net a d (route_of p c)) h refl)
+      ∙ better-behind b c (offer net a d (route_of p c)) h refl)
 
 -- ---- a device that looks at its neighbours alone
 
@@ -165,7 +167,7 @@ module _ (net : Network) (p : Cidr) (table : List (Option Choice)) (d : DeviceId
 
   -- else the best of what the neighbours offer is
   pub learnt_decided : None ≡ own_origin net d p → (best : Option (Ranked Choice))
-      → best ≡ fold (λ x a. better x (heard_ranked net p table d a)) None (peers_of net d)
+      → best ≡ fold (λ x a. better x (ranked_candidate net p table d a)) None (peers_of net d)
       → option_map (λ (r : Ranked Choice). r.item) best ≡ decided net p table d
   learnt_decided e best is =
       deciding.learnt_decided net (offers_to net (held_of table) d p) d p

@@ -19,13 +19,15 @@ abbrev pub held_of : List (Option Choice) → Assignment
 held_of table d p = slice_index_or table d.0 None
 
 -- what d may use of what a offers, where the devices hold what the table has
-abbrev pub heard : Network → Cidr → List (Option Choice) → DeviceId → DeviceId → Option Choice
-heard net p table d a = usable net d a (offers_to net (held_of table) d p a)
+abbrev pub candidate_from : Network → Cidr → List (Option Choice) → DeviceId → DeviceId
+    → Option Choice
+candidate_from net p table d a = usable net d a (offers_to net (held_of table) d p a)
 
 -- the same, beside its rank
-abbrev pub heard_ranked : Network → Cidr → List (Option Choice) → DeviceId → DeviceId
+abbrev pub ranked_candidate : Network → Cidr → List (Option Choice) → DeviceId → DeviceId
     → Option (Ranked Choice)
-heard_ranked net p table d a = option_map (with_rank (rank_of net)) (heard net p table d a)
+ranked_candidate net p table d a =
+    option_map (with_rank (rank_of net)) (candidate_from net p table d a)
 
 -- the best rank that an offer of c from a can have: it is at least one number longer than c
 abbrev pub shortest_rank : Network → DeviceId → Choice → Rank
@@ -37,9 +39,9 @@ shortest_rank net a c = record {
 }
 
 -- no offer of c from a can outrank the best so far
-abbrev pub is_unbeaten : Network → Option (Ranked Choice) → DeviceId → Choice → Bool
-is_unbeaten net None a c = false
-is_unbeaten net (Some best) a c = not (ranks_before (shortest_rank net a c) best.rank)
+abbrev pub no_offer_outranks : Network → Option (Ranked Choice) → DeviceId → Choice → Bool
+no_offer_outranks net None a c = false
+no_offer_outranks net (Some best) a c = not (ranks_before (shortest_rank net a c) best.rank)
 
 -- what d decides, where the devices hold what the table has
 abbrev pub decided : Network → Cidr → List (Option Choice) → DeviceId → Option Choice

@@ -3,15 +3,15 @@
 //!
 //! `decided` takes a device's own route, or else the best of what its neighbours offer: `learnt`
 //! goes through them and keeps the best so far beside its rank, and `cn_decide` compares. An offer
-//! copies the path that is held, so `better_heard` makes none that can't be taken: the device would
-//! refuse it as a loop, or the best so far stands before it whatever it is.
+//! copies the path that is held, so `better_candidate` makes none that can't be taken: the device
+//! would refuse it as a loop, or the best so far stands before it whatever it is.
 
 ghost use Rattle.std.specs.Prelude.{◌≡◌, length, IfOk, None, Some, option_map};
 ghost use Rattle.std.specs.List.{fold};
 ghost use Rattle.cn_decide.specs.Decide.{better, with_rank};
 ghost use Rattle.cn_net.specs.Candidates.{rank_of, usable};
 ghost use Rattle.cn_net.specs.Network.{IsDevice, peers_of};
-ghost use Rattle.cn_record.specs.Tables.{decided, heard_ranked, is_unbeaten};
+ghost use Rattle.cn_record.specs.Tables.{decided, ranked_candidate, no_offer_outranks};
 
 use cn_base::{AsPath, Choice, DeviceId, Prefix, Rank, Route};
 use cn_decide::{Ranked, better, rank_with};
@@ -46,8 +46,13 @@ fn better_accepted(
 
 // Holds where no offer of what a device holds can outrank the best so far: an offer is at least one
 // number longer, and has the same ORIGIN.
-fn is_unbeaten(net: &Net, best: &Option<Ranked<Choice>>, from: DeviceId, held: &Choice) -> bool
-    ensures { result ≡ is_unbeaten net.now best.now from held.now }
+fn no_offer_outranks(
+    net: &Net,
+    best: &Option<Ranked<Choice>>,
+    from: DeviceId,
+    held: &Choice,
+) -> bool
+    ensures { result ≡ no_offer_outranks net.now best.now from held.now }
 {
     match best {
         Some(best) => {
@@ -65,7 +70,7 @@ fn is_unbeaten(net: &Net, best: &Option<Ranked<Choice>>, from: DeviceId, held: &
 // The better of the best so far and of what one more device offers. What that one holds is looked
 // at first: an offer ends with the path that is held, so where that has the device's AS number the
 // offer is refused (RFC 4271, 9.1.2).
-fn better_heard(
+fn better_candidate(
     alloc: Global,
     net: &Net,
     table: &[Option<Choice>],
@@ -77,13 +82,13 @@ fn better_heard(
     requires from { IsDevice net.now from }
     requires size { length table.now ≡ length net.now.devices }
     ensures { IfOk result
-        (λ o. o ≡ better best (heard_ranked net.now prefix.now table.now device from)) }
+        (λ o. o ≡ better best (ranked_candidate net.now prefix.now table.now device from)) }
 {
     let held = match &table[from.0 as usize] {
         Some(held) => held,
         None => return Ok(best),
     };
-    if is_unbeaten(net, &best, from, held) {
+    if no_offer_outranks(net, &best, from, held) {
         return Ok(best);
     }
     if held.path.contains(net.asn(device)) {
@@ -106,13 +111,13 @@ fn learnt(
     requires size { length table.now ≡ length net.now.devices }
     ensures { IfOk result
         (λ o. o ≡ fold
-        (λ best a. better best (heard_ranked net.now prefix.now table.now device a)) None
+        (λ best a. better best (ranked_candidate net.now prefix.now table.now device a)) None
         (peers_of net.now device)) }
 {
     net.valid();
     let mut best = None;
     for neighbour in net.neighbours(device) {
-        best = better_heard(alloc, net, table, device, prefix, neighbour.device, best)?;
+        best = better_candidate(alloc, net, table, device, prefix, neighbour.device, best)?;
     }
     Ok(best)
 }

@@ -1,8 +1,8 @@
 use Rattle.std.proofs.Common.{◌∙◌, ◌<◌, length, arith, ap, sym}
 use Rattle.cn_base.specs.Paths.{holds_asn}
-use Rattle.cn_record.proofs.Deciding.{better-held_none, better-loop, better-not_offered, better-offered, better-unbeaten}
-use Rattle.cn_record.proofs.decision.better_heard.Goals as goal
-use Rattle.cn_record.proofs.decision.better_heard.Goals.{In-Some}
+use Rattle.cn_record.proofs.Deciding.{better-held_none, better-loop, better-not_offered, better-offered, better-no_offer_outranks}
+use Rattle.cn_record.proofs.decision.better_candidate.Goals as goal
+use Rattle.cn_record.proofs.decision.better_candidate.Goals.{In-Some}
 
 within : (c : In-Some) → c.args.from.0 < length c.args.table.now
 within c = omega (arith, c.requires.from, c.requires.size)
@@ -13,11 +13,13 @@ returns-in-None c =
     c.args.best _ (omega (arith, c.requires.from, c.requires.size)) c.index-table-from.is
     c.in-None.is
 
-pub returns-then-is_unbeaten : goal.returns-then-is_unbeaten
-returns-then-is_unbeaten c =
-    better-unbeaten c.args.net.now c.args.prefix.now c.args.table.now c.args.device c.args.from
-    c.args.best _ c.in-Some.held (within (goal.at.returns-then-is_unbeaten c).In-Some)
-    c.index-table-from.is c.in-Some.is (sym c.is_unbeaten.ensures ∙ c.if-is_unbeaten.true)
+pub returns-then-no_offer_outranks : goal.returns-then-no_offer_outranks
+returns-then-no_offer_outranks c =
+    better-no_offer_outranks c.args.net.now c.args.prefix.now c.args.table.now c.args.device
+    c.args.from
+    c.args.best _ c.in-Some.held (within (goal.at.returns-then-no_offer_outranks c).In-Some)
+    c.index-table-from.is c.in-Some.is
+    (sym c.no_offer_outranks.ensures ∙ c.if-no_offer_outranks.true)
 
 pub returns-then-contains : goal.returns-then-contains
 returns-then-contains c =
