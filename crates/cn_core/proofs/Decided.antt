@@ -11,13 +11,13 @@ use Rattle.cn_base.specs.declared.rank.Rank.{Rank}
 use Rattle.cn_base.specs.declared.route.Choice.{Choice}
 use Rattle.cn_base.specs.declared.route.Route.{Route}
 use Rattle.cn_base.specs.declared.route.Attributes.{Attributes}
-use Rattle.cn_decide.specs.Decide.{better, rank_with, with_rank}
+use Rattle.cn_decide.specs.Decide.{better, with_rank}
 use Rattle.cn_decide.specs.declared.Ranked.{Ranked}
 use Rattle.cn_decide.proofs.Steps.{better_by_none, on_item-better}
 use Rattle.cn_rib.proofs.Keyed.{get_empty}
 use Rattle.cn_net.specs.Candidates.{best_of, choice_from, rank_of, usable}
 use Rattle.cn_net.specs.Exchange.{accept}
-use Rattle.cn_net.specs.Network.{Network, is_linked, own_origin, peers_of, router_of}
+use Rattle.cn_net.specs.Network.{Network, is_linked, own_origin, peers_of}
 use Rattle.cn_net.proofs.Deciding as deciding
 use Rattle.cn_core.specs.declared.session.Session.{Session}
 use Rattle.cn_core.specs.Learnt.{choice_with, learnt_choice}
@@ -78,7 +78,7 @@ module _ (s : CoreState) (d : DeviceId) (p : Cidr) (a : DeviceId) where
   pub better-accepted : (best more : Option (Ranked (DeviceId × Bor Attributes)))
       (x : Bor Attributes) (rank : Rank)
       → Some x.now ≡ fin.get (session s a d).came p → accept s.net d a (route_with p x.now) ≡ true
-      → rank ≡ rank_with true x.now.path x.now.origin (router_of s.net a)
+      → rank ≡ rank_of s.net (choice_with a x.now)
       → more ≡ better best (Some (record { rank = rank; item = (a, x) }))
       → learnt_choice more ≡ with_came (learnt_choice best)
   better-accepted best more x rank e t r is =

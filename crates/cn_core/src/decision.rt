@@ -7,14 +7,22 @@ ghost use Rattle.std.specs.List.{fold};
 ghost use Rattle.cn_decide.specs.Decide.{better, with_rank};
 ghost use Rattle.cn_net.specs.Candidates.{best_of, rank_of, usable};
 ghost use Rattle.cn_net.specs.Network.{peers_of};
-ghost use Rattle.cn_core.specs.Learnt.{learnt_choice};
+ghost use Rattle.cn_core.specs.Learnt.{choice_with, learnt_choice};
 ghost use Rattle.cn_core.specs.Machine.{came_at};
 ghost use Rattle.cn_core.specs.Whole.{IsWhole};
 
 use crate::engine::Engine;
-use cn_base::{AsPath, Attributes, Choice, DeviceId, Prefix};
+use cn_base::{AsPath, Attributes, Choice, DeviceId, Prefix, Rank};
 use cn_decide::{Ranked, better, rank_with};
+use cn_net::Net;
 use std::alloc::{AllocError, Global};
+
+// What decides about a route that came in (RFC 4271, 9.1.2.2).
+fn rank(net: &Net, from: DeviceId, attributes: &Attributes) -> Rank
+    ensures { result ≡ rank_of net.now (choice_with from attributes.now) }
+{
+    rank_with(true, &attributes.path, attributes.origin, net.router(from))
+}
 
 impl Engine {
     // The better of the best so far and of what came in from one more device, if that is accepted.
@@ -41,8 +49,7 @@ impl Engine {
         {
             return best;
         }
-        let sender = self.net.router(from);
-        let rank = rank_with(true, &attributes.path, attributes.origin, sender);
+        let rank = rank(&self.net, from, attributes);
         let item = (from, attributes);
         better(best, Ranked { rank, item })
     }

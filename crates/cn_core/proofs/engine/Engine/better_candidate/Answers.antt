@@ -1,8 +1,7 @@
-use Rattle.std.proofs.Common.{true, sym, ap, ◌∙◌}
-use Rattle.cn_decide.specs.Decide.{rank_with}
+use Rattle.std.proofs.Common.{sym, ap, ◌∙◌}
+use Rattle.cn_net.specs.Candidates.{rank_of}
 use Rattle.cn_net.specs.Exchange.{accept}
-use Rattle.cn_net.specs.Network.{router_of}
-use Rattle.cn_core.specs.Learnt.{learnt_choice}
+use Rattle.cn_core.specs.Learnt.{choice_with, learnt_choice}
 use Rattle.cn_core.specs.Machine.{route_with}
 use Rattle.cn_core.specs.State.{CoreState}
 use Rattle.cn_core.proofs.Decided.{better-accepted, better-came_none, better-refused}
@@ -27,9 +26,8 @@ returns c =
     let x = c.in-Some.attributes.now in
     let net = ap (λ (s : CoreState). s.net) c.self.view_is in
     better-accepted c.args.self.now c.args.device c.args.prefix.now c.args.from c.args.best
-    c.better.result c.in-Some.attributes c.rank_with-rank.result c.in-Some.ensures
+    c.better.result c.in-Some.attributes c.rank-rank.result c.in-Some.ensures
     (ap (λ n. accept n c.args.device c.args.from (route_with c.args.prefix.now x)) (sym net)
     ∙ sym (c.accepts_path.ensures x.origin) ∙ c.if-not-accepts_path.false)
-    (c.rank_with-rank.ensures ∙ ap (rank_with true x.path x.origin)
-    (c.router-sender.ensures ∙ ap (λ n. router_of n c.args.from) net))
+    (c.rank-rank.ensures ∙ ap (λ n. rank_of n (choice_with c.args.from x)) net)
     c.better.ensures
