@@ -19,7 +19,7 @@ cond_map f true x y = refl
 cond_map f false x y = refl
 
 -- the better of two things, each beside its rank, is the better of the two beside its rank
-pub better-with_rank : {A : Type 0} (rank : A → Rank) (x y : Option A)
+better-with_rank : {A : Type 0} (rank : A → Rank) (x y : Option A)
     → better (option_map (with_rank rank) x) (option_map (with_rank rank) y)
     ≡ option_map (with_rank rank) (better_by rank x y)
 unfolding outranks_by
