@@ -36,31 +36,44 @@ number_is d n e = λ i. record { 0 = e i }
 -- ---- devices
 
 -- the devices below n that have a label
-pub record AreMembersBelow (net : Network) (label : DeviceId → Option DeviceId) (n : ℕ) (members : List Member) : Type 0 where
+pub record AreMembersBelow (net : Network) (label : DeviceId → Option DeviceId) (n : ℕ)
+    (members : List Member) : Type 0 where
   pub each : All (λ m. (m.device.0 < n) × (label m.device ≡ Some m.island)) members
-  pub all : (d i : DeviceId) → d.0 < n → label d ≡ Some i → Contains members (record { island = i; device = d })
+  pub all : (d i : DeviceId) → d.0 < n → label d ≡ Some i
+      → Contains members (record { island = i; device = d })
 
-pub no_members : (net : Network) (label : DeviceId → Option DeviceId) → AreMembersBelow net label 0 []
+pub no_members : (net : Network) (label : DeviceId → Option DeviceId)
+    → AreMembersBelow net label 0 []
 no_members net label = record {
   each = All-nil (λ m. (m.device.0 < 0) × (label m.device ≡ Some m.island));
   all = λ d i lt. absurd (omega arith);
 }
 
-module _ (net : Network) (label : DeviceId → Option DeviceId) (n : ℕ) (members : List Member) (so : AreMembersBelow net label n members) where
+module _ (net : Network) (label : DeviceId → Option DeviceId) (n : ℕ) (members : List Member)
+    (so : AreMembersBelow net label n members) where
   each_more : All (λ m. (m.device.0 < n + 1) × (label m.device ≡ Some m.island)) members
-  each_more = All-weaker (λ m. (m.device.0 < n) × (label m.device ≡ Some m.island)) (λ m. (m.device.0 < n + 1) × (label m.device ≡ Some m.island)) (λ m h. let lt = h.0 in (omega arith, h.1)) members so.each
+  each_more = All-weaker (λ m. (m.device.0 < n) × (label m.device ≡ Some m.island))
+      (λ m. (m.device.0 < n + 1) × (label m.device ≡ Some m.island))
+      (λ m h. let lt = h.0 in (omega arith, h.1)) members so.each
 
-  pub member_more : (i : DeviceId) (new : List Member) → Some i ≡ label (record { 0 = n }) → new ≡ members ++ record { island = i; device = record { 0 = n } } ∷ [] → AreMembersBelow net label (n + 1) new
+  pub member_more : (i : DeviceId) (new : List Member) → Some i ≡ label (record { 0 = n })
+      → new ≡ members ++ record { island = i; device = record { 0 = n } } ∷ []
+      → AreMembersBelow net label (n + 1) new
   member_more i new e is =
       let m : Member = record { island = i; device = record { 0 = n } } in
       subst (AreMembersBelow net label (n + 1)) (sym is) (record {
-        each = All-push (λ m. (m.device.0 < n + 1) × (label m.device ≡ Some m.island)) members m each_more (omega arith, sym e);
+        each =
+            All-push
+            (λ m. (m.device.0 < n + 1) × (label m.device ≡ Some m.island)) members m each_more
+            (omega arith, sym e);
         all = λ d j lt l. elim (below_or d.0 n lt) [
-          | inl below ↦ Contains-append_left members (m ∷ []) (record { island = j; device = d }) (so.all d j below l)
+          | inl below ↦ Contains-append_left members (m ∷ []) (record { island = j; device = d })
+              (so.all d j below l)
           | inr here ↦
               let at = number_is d n here in
               let same : i ≡ j = same_Some i j (e ∙ ap label (sym at) ∙ l) in
-              subst (Contains (members ++ m ∷ [])) (λ t. record { island = same t; device = sym at t }) (Contains-push members m)
+              subst (Contains (members ++ m ∷ []))
+              (λ t. record { island = same t; device = sym at t }) (Contains-push members m)
         ];
       })
 
@@ -73,10 +86,16 @@ module _ (net : Network) (label : DeviceId → Option DeviceId) (n : ℕ) (membe
     ];
   }
 
-pub members_sorted : (net : Network) (label : DeviceId → Option DeviceId) (n : ℕ) (xs ys : List Member) → n ≡ length net.devices → IsPermutation xs ys → AreMembersBelow net label n xs → AreMembers net label ys
+pub members_sorted : (net : Network) (label : DeviceId → Option DeviceId) (n : ℕ)
+    (xs ys : List Member) → n ≡ length net.devices → IsPermutation xs ys
+    → AreMembersBelow net label n xs → AreMembers net label ys
 members_sorted net label n xs ys all moves so = record {
-  each = All-permutation (λ m. IsDevice net m.device × (label m.device ≡ Some m.island)) xs ys moves (All-weaker (λ m. (m.device.0 < n) × (label m.device ≡ Some m.island)) (λ m. IsDevice net m.device × (label m.device ≡ Some m.island)) (λ m h. let lt = h.0 in (omega arith, h.1)) xs so.each);
-  all = λ d i is l. Contains-permutation xs ys (record { island = i; device = d }) moves (so.all d i (omega (arith, is)) l);
+  each = All-permutation (λ m. IsDevice net m.device × (label m.device ≡ Some m.island)) xs ys moves
+      (All-weaker (λ m. (m.device.0 < n) × (label m.device ≡ Some m.island))
+      (λ m. IsDevice net m.device × (label m.device ≡ Some m.island))
+      (λ m h. let lt = h.0 in (omega arith, h.1)) xs so.each);
+  all = λ d i is l. Contains-permutation xs ys (record { island = i; device = d }) moves
+      (so.all d i (omega (arith, is)) l);
 }
 
 -- ---- what a device originates
@@ -90,95 +109,130 @@ has_first z xs = (0, omega arith, refl)
 has_later : {X : Type 0} (z : X) (xs : List X) (x : X) → Contains xs x → Contains (z ∷ xs) x
 has_later z xs x h = Contains-append_right (z ∷ []) xs x h
 
-map_from : {X Y : Type 0} (f : X → Y) (xs : List X) (y : Y) → Contains (map f xs) y → (x : X) × Contains xs x × (f x ≡ y)
+map_from : {X Y : Type 0} (f : X → Y) (xs : List X) (y : Y) → Contains (map f xs) y
+    → (x : X) × Contains xs x × (f x ≡ y)
 map_from f [] y h = absurd (has_nothing y h)
 map_from f (z ∷ zs) y (zero, lt, e) = (z, has_first z zs, e)
-map_from f (z ∷ zs) y (suc k, lt, e) = let s = map_from f zs y (k, omega arith, e) in (s.0, has_later z zs s.0 s.1, s.2)
+map_from f (z ∷ zs) y (suc k, lt, e) = let s = map_from f zs y (k, omega arith, e) in
+    (s.0, has_later z zs s.0 s.1, s.2)
 
-find_some : {X : Type 0} (p : X → Bool) (xs : List X) (x : X) → Contains xs x → p x ≡ true → is_some (find p xs) ≡ true
+find_some : {X : Type 0} (p : X → Bool) (xs : List X) (x : X) → Contains xs x → p x ≡ true
+    → is_some (find p xs) ≡ true
 find_some p [] x h t = absurd (has_nothing x h)
-find_some p (z ∷ zs) x (zero, lt, e) t = ap is_some (cond-true (p z) (Some z) (find p zs) (ap p e ∙ t))
+find_some p (z ∷ zs) x (zero, lt, e) t =
+    ap is_some (cond-true (p z) (Some z) (find p zs) (ap p e ∙ t))
 find_some p (z ∷ zs) x (suc k, lt, e) t =
     elim (cases_Bool (p z)) [
       | inl s ↦ ap is_some (cond-true (p z) (Some z) (find p zs) s)
-      | inr s ↦ ap is_some (cond-false (p z) (Some z) (find p zs) s) ∙ find_some p zs x (k, omega arith, e) t
+      | inr s ↦ ap is_some (cond-false (p z) (Some z) (find p zs) s)
+          ∙ find_some p zs x (k, omega arith, e) t
     ]
 
 -- what is found of an element, stands in the list that is made of all of them
-found_has : {X Y : Type 0} (p : X → Bool) (f : X → Y) (y : Y) → ((x : X) → p x ≡ true → f x ≡ y) → (xs : List X) → is_some (find p xs) ≡ true → Contains (map f xs) y
+found_has : {X Y : Type 0} (p : X → Bool) (f : X → Y) (y : Y) → ((x : X) → p x ≡ true → f x ≡ y)
+    → (xs : List X) → is_some (find p xs) ≡ true → Contains (map f xs) y
 found_has p f y same [] e = absurd (let never : false ≡ true = e in cc)
 found_has p f y same (z ∷ zs) e =
     elim (cases_Bool (p z)) [
       | inl t ↦ (0, omega arith, same z t)
-      | inr s ↦ has_later (f z) (map f zs) y (found_has p f y same zs (sym (ap is_some (cond-false (p z) (Some z) (find p zs) s)) ∙ e))
+      | inr s ↦
+          has_later (f z) (map f zs) y
+          (found_has p f y same zs
+          (sym (ap is_some (cond-false (p z) (Some z) (find p zs) s)) ∙ e))
     ]
 
-map_some : {X Y : Type 0} (f : X → Y) (o : Option X) → is_some o ≡ true → is_some (option_map f o) ≡ true
+map_some : {X Y : Type 0} (f : X → Y) (o : Option X) → is_some o ≡ true
+    → is_some (option_map f o) ≡ true
 map_some f None h = h
 map_some f (Some x) h = refl
 
-some_map : {X Y : Type 0} (f : X → Y) (o : Option X) → is_some (option_map f o) ≡ true → is_some o ≡ true
+pub some_map : {X Y : Type 0} (f : X → Y) (o : Option X) → is_some (option_map f o) ≡ true
+    → is_some o ≡ true
 some_map f None h = h
 some_map f (Some x) h = refl
 
-same_is : (p q : Cidr) → same_prefix p q ≡ true → p ≡ q
-same_is p q t = let both = and_parts _ _ t in let a = eqb-true p.bits q.bits both.0 in let b = eqb-true p.len q.len both.1 in λ i. record { bits = a i; len = b i }
+pub same_is : (p q : Cidr) → same_prefix p q ≡ true → p ≡ q
+same_is p q t = let both = and_parts _ _ t in let a = eqb-true p.bits q.bits both.0 in
+    let b = eqb-true p.len q.len both.1 in λ i. record { bits = a i; len = b i }
 
 same_itself : (p : Cidr) → same_prefix p p ≡ true
 same_itself p = grind (arith, nat_tests)
 
-own_has : (body : Body) (i : DeviceId) (p : Cidr) → IsSome (own_of body p) → Contains (map (λ o. of_island i o.prefix) body.own) (of_island i p)
+own_has : (body : Body) (i : DeviceId) (p : Cidr) → IsSome (own_of body p)
+    → Contains (map (λ o. of_island i o.prefix) body.own) (of_island i p)
 own_has body i p some =
-    found_has (λ (o : Own). same_prefix o.prefix p) (λ (o : Own). of_island i o.prefix) (of_island i p) (λ o t. ap (of_island i) (same_is o.prefix p t)) body.own
+    found_has (λ (o : Own). same_prefix o.prefix p) (λ (o : Own). of_island i o.prefix)
+    (of_island i p) (λ o t. ap (of_island i) (same_is o.prefix p t)) body.own
     (some_map (λ (o : Own). o.origin) (find (λ (o : Own). same_prefix o.prefix p) body.own) some)
 
-own_from : (body : Body) (i : DeviceId) (x : IslandPrefix) → Contains (map (λ o. of_island i o.prefix) body.own) x → (x.island ≡ i) × IsSome (own_of body x.prefix)
+own_from : (body : Body) (i : DeviceId) (x : IslandPrefix)
+    → Contains (map (λ o. of_island i o.prefix) body.own) x
+    → (x.island ≡ i) × IsSome (own_of body x.prefix)
 own_from body i x h =
     let s = map_from (λ (o : Own). of_island i o.prefix) body.own x h in
     let o = s.0 in
     let at : o.prefix ≡ x.prefix = ap (λ (z : IslandPrefix). z.prefix) s.2 in (
       sym (ap (λ (z : IslandPrefix). z.island) s.2),
       map_some (λ (z : Own). z.origin) (find (λ (z : Own). same_prefix z.prefix x.prefix) body.own)
-          (find_some (λ (z : Own). same_prefix z.prefix x.prefix) body.own o s.1 (subst (λ q. same_prefix o.prefix q ≡ true) at (same_itself o.prefix))),
+          (find_some (λ (z : Own). same_prefix z.prefix x.prefix) body.own o s.1
+          (subst (λ q. same_prefix o.prefix q ≡ true) at (same_itself o.prefix))),
     )
 
-device_within : (net : Network) (d : DeviceId) (x : Device) → Some x ≡ device_of net d → IsDevice net d
+device_within : (net : Network) (d : DeviceId) (x : Device) → Some x ≡ device_of net d
+    → IsDevice net d
 device_within net d x e = slice_get_within net.devices d.0 x (sym e)
 
-pub own_added : (net : Network) (label : DeviceId → Option DeviceId) (d i : DeviceId) (found : Device) (old new : List IslandPrefix) → Some i ≡ label d → Some found ≡ device_of net d → new ≡ old ++ map (λ o. of_island i o.prefix) found.body.own → AddsPrefixes net label d old new
+pub own_added : (net : Network) (label : DeviceId → Option DeviceId) (d i : DeviceId)
+    (found : Device) (old new : List IslandPrefix) → Some i ≡ label d → Some found ≡ device_of net d
+    → new ≡ old ++ map (λ o. of_island i o.prefix) found.body.own
+    → AddsPrefixes net label d old new
 own_added net label d i found old new l is e =
     let more = map (λ (o : Own). of_island i o.prefix) found.body.own in
-    let own : (p : Cidr) → own_origin net d p ≡ own_of found.body p = λ p. ap (option_and_then (λ (x : Device). own_of x.body p)) (sym is) in
+    let own : (p : Cidr) → own_origin net d p ≡ own_of found.body p =
+    λ p. ap (option_and_then (λ (x : Device). own_of x.body p)) (sym is) in
     subst (AddsPrefixes net label d old) (sym e) (record {
       kept = λ x h. Contains-append_left old more x h;
       added = λ j p lj some.
           let same : i ≡ j = same_Some i j (l ∙ lj) in
-          subst (λ z. Contains (old ++ more) (of_island z p)) same (Contains-append_right old more (of_island i p) (own_has found.body i p (sym (ap is_some (own p)) ∙ some)));
+          subst (λ z. Contains (old ++ more) (of_island z p)) same
+          (Contains-append_right old more (of_island i p)
+          (own_has found.body i p (sym (ap is_some (own p)) ∙ some)));
       only = λ x h. elim (Contains-append_cases old more x h) [
         | inl before ↦ inl before
         | inr now ↦
             let s = own_from found.body i x now in
-            inr (record { device = d; in_island = sym l ∙ ap Some (sym s.0); originates = (device_within net d found is, ap is_some (own x.prefix) ∙ s.1) })
+            inr (record {
+              device = d;
+              in_island = sym l ∙ ap Some (sym s.0);
+              originates =
+                  (device_within net d found is, ap is_some (own x.prefix) ∙ s.1);
+            })
       ];
     })
 
 -- ---- prefixes
 
 -- prefixes of islands, among them those of the devices below n
-pub record ArePrefixesBelow (net : Network) (label : DeviceId → Option DeviceId) (n : ℕ) (list : List IslandPrefix) : Type 0 where
+pub record ArePrefixesBelow (net : Network) (label : DeviceId → Option DeviceId) (n : ℕ)
+    (list : List IslandPrefix) : Type 0 where
   pub each : All (λ x. IsOfIsland net label x.island x.prefix) list
-  pub all : (d i : DeviceId) (p : Cidr) → d.0 < n → label d ≡ Some i → IsSome (own_origin net d p) → Contains list (of_island i p)
+  pub all : (d i : DeviceId) (p : Cidr) → d.0 < n → label d ≡ Some i → IsSome (own_origin net d p)
+      → Contains list (of_island i p)
 
-pub no_prefixes : (net : Network) (label : DeviceId → Option DeviceId) → ArePrefixesBelow net label 0 []
+pub no_prefixes : (net : Network) (label : DeviceId → Option DeviceId)
+    → ArePrefixesBelow net label 0 []
 no_prefixes net label = record {
   each = All-nil (λ x. IsOfIsland net label x.island x.prefix);
   all = λ d i p lt. absurd (omega arith);
 }
 
-pub prefixes_more : (net : Network) (label : DeviceId → Option DeviceId) (n : ℕ) (old new : List IslandPrefix) → ArePrefixesBelow net label n old → AddsPrefixes net label (record { 0 = n }) old new → ArePrefixesBelow net label (n + 1) new
+pub prefixes_more : (net : Network) (label : DeviceId → Option DeviceId) (n : ℕ)
+    (old new : List IslandPrefix) → ArePrefixesBelow net label n old
+    → AddsPrefixes net label (record { 0 = n }) old new → ArePrefixesBelow net label (n + 1) new
 prefixes_more net label n old new so adds = record {
   each = λ k d lt. elim (adds.only (get_or new k d) (Contains-get_or new k d lt)) [
-    | inl before ↦ All-contains (λ x. IsOfIsland net label x.island x.prefix) old (get_or new k d) so.each before
+    | inl before ↦ All-contains (λ x. IsOfIsland net label x.island x.prefix) old
+        (get_or new k d) so.each before
     | inr now ↦ now
   ];
   all = λ d i p lt l some. elim (below_or d.0 n lt) [
@@ -199,7 +253,12 @@ abbrev pub same_entry : IslandPrefix → IslandPrefix → Bool
 same_entry x y = same_prefix x.prefix y.prefix && same_device x.island y.island
 
 entry_cmp_total : IsTotalOrder entry_cmp
-entry_cmp_total = then_total (on_total (λ (x : IslandPrefix). x.prefix) (then_total (on_total (λ (p : Cidr). p.bits) nat_cmp_total) (on_total (λ (p : Cidr). p.len) nat_cmp_total))) (on_total (λ (x : IslandPrefix). x.island.0) nat_cmp_total)
+entry_cmp_total =
+    then_total
+    (on_total (λ (x : IslandPrefix). x.prefix)
+    (then_total (on_total (λ (p : Cidr). p.bits) nat_cmp_total)
+    (on_total (λ (p : Cidr). p.len) nat_cmp_total)))
+    (on_total (λ (x : IslandPrefix). x.island.0) nat_cmp_total)
 
 ties : (x y : IslandPrefix) → same_entry x y ≡ eq_by_cmp entry_cmp x y
 ties x y = grind (arith, nat_tests)
@@ -219,12 +278,17 @@ same_entry_laws = record {
 }
 
 -- one prefix is of one island
-one_island : (net : Network) (label : DeviceId → Option DeviceId) → HasOwnPrefixes net label → (i j : DeviceId) (p q : Cidr) → IsOfIsland net label i p → IsOfIsland net label j q → p ≡ q → i ≡ j
+one_island : (net : Network) (label : DeviceId → Option DeviceId) → HasOwnPrefixes net label
+    → (i j : DeviceId) (p q : Cidr) → IsOfIsland net label i p → IsOfIsland net label j q → p ≡ q
+    → i ≡ j
 one_island net label own i j p q x y same =
     let there = subst (λ z. IsOfIsland net label j z) (sym same) y in
-    same_Some i j (sym (own i x.device there.device p x.in_island x.originates there.originates) ∙ there.in_island)
+    same_Some i j
+    (sym (own i x.device there.device p x.in_island x.originates there.originates)
+    ∙ there.in_island)
 
-first_less : (x y : IslandPrefix) → entry_cmp x y ≡ Less → (x.prefix ≡ y.prefix → x.island ≡ y.island) → prefix_cmp x.prefix y.prefix ≡ Less
+first_less : (x y : IslandPrefix) → entry_cmp x y ≡ Less
+    → (x.prefix ≡ y.prefix → x.island ≡ y.island) → prefix_cmp x.prefix y.prefix ≡ Less
 first_less x y less one =
     elim (cases_Bool (same_prefix x.prefix y.prefix)) [
       | inl t ↦
@@ -235,17 +299,28 @@ first_less x y less one =
       | inr f ↦ grind (arith, nat_tests)
     ]
 
-ascend : (net : Network) (label : DeviceId → Option DeviceId) → HasOwnPrefixes net label → (list : List IslandPrefix) → All (λ x. IsOfIsland net label x.island x.prefix) list → IsStrictlySortedBy entry_cmp list → IsStrictlySortedBy (on (λ x. x.prefix) prefix_cmp) list
+ascend : (net : Network) (label : DeviceId → Option DeviceId) → HasOwnPrefixes net label
+    → (list : List IslandPrefix) → All (λ x. IsOfIsland net label x.island x.prefix) list
+    → IsStrictlySortedBy entry_cmp list
+    → IsStrictlySortedBy (on (λ x. x.prefix) prefix_cmp) list
 unfolding IsStrictlySortedBy
 ascend net label own [] each up = tt
 ascend net label own (x ∷ xs) each up =
     let list : List IslandPrefix = x ∷ xs in
-    sorted_from_all_adjacent (on_total (λ (z : IslandPrefix). z.prefix) (then_total (on_total (λ (p : Cidr). p.bits) nat_cmp_total) (on_total (λ (p : Cidr). p.len) nat_cmp_total))) list x (λ k lt.
+    sorted_from_all_adjacent
+    (on_total (λ (z : IslandPrefix). z.prefix)
+    (then_total (on_total (λ (p : Cidr). p.bits) nat_cmp_total)
+    (on_total (λ (p : Cidr). p.len) nat_cmp_total))) list x (λ k lt.
     let y = get_or list k x in
     let z = get_or list (k + 1) x in
-    first_less y z (Less-from_sorted entry_cmp list k (k + 1) x up (omega arith) lt) (one_island net label own y.island z.island y.prefix z.prefix (each k x (omega arith)) (each (k + 1) x lt)))
+    first_less y z (Less-from_sorted entry_cmp list k (k + 1) x up (omega arith) lt)
+    (one_island net label own y.island z.island y.prefix z.prefix (each k x (omega arith))
+    (each (k + 1) x lt)))
 
-pub prefixes_sorted : (net : Network) (label : DeviceId → Option DeviceId) (n : ℕ) (xs ys : List IslandPrefix) → HasOwnPrefixes net label → n ≡ length net.devices → IsPermutation xs ys → IsSorted entry_cmp ys → ArePrefixesBelow net label n xs → AreIslandPrefixes net label (dedup same_entry ys)
+pub prefixes_sorted : (net : Network) (label : DeviceId → Option DeviceId) (n : ℕ)
+    (xs ys : List IslandPrefix) → HasOwnPrefixes net label → n ≡ length net.devices
+    → IsPermutation xs ys → IsSorted entry_cmp ys → ArePrefixesBelow net label n xs
+    → AreIslandPrefixes net label (dedup same_entry ys)
 prefixes_sorted net label n xs ys own all moves sorted so =
     let each' = All-permutation (λ x. IsOfIsland net label x.island x.prefix) xs ys moves so.each in
     let each = All-dedup same_entry (λ x. IsOfIsland net label x.island x.prefix) ys each' in
@@ -253,6 +328,9 @@ prefixes_sorted net label n xs ys own all moves sorted so =
       each = each;
       all = λ i p h.
           let there : h.device.0 < n = omega (arith, h.originates.0) in
-          Contains-dedup same_entry_laws same_entry_is ys (of_island i p) (Contains-permutation xs ys (of_island i p) moves (so.all h.device i p there h.in_island h.originates.1));
-      ascending = ascend net label own (dedup same_entry ys) each (IsStrictlySortedBy-dedup entry_cmp_total ties ys sorted);
+          Contains-dedup same_entry_laws same_entry_is ys (of_island i p)
+          (Contains-permutation xs ys (of_island i p) moves
+          (so.all h.device i p there h.in_island h.originates.1));
+      ascending = ascend net label own (dedup same_entry ys) each
+          (IsStrictlySortedBy-dedup entry_cmp_total ties ys sorted);
     }

@@ -17,7 +17,8 @@ use Rattle.cn_record.specs.Grouped.{of_island}
 use Rattle.cn_record.specs.declared.islands.IslandPrefix.{IslandPrefix}
 
 prefix_cmp_total : IsTotalOrder prefix_cmp
-prefix_cmp_total = then_total (on_total (λ (p : Cidr). p.bits) nat_cmp_total) (on_total (λ (p : Cidr). p.len) nat_cmp_total)
+prefix_cmp_total = then_total (on_total (λ (p : Cidr). p.bits) nat_cmp_total)
+    (on_total (λ (p : Cidr). p.len) nat_cmp_total)
 
 equal_is : (p q : Cidr) → prefix_cmp p q ≡ Equal → p ≡ q
 equal_is p q e =
@@ -27,26 +28,45 @@ equal_is p q e =
     let b = eqb-true p.len q.len both.1 in
     λ i. record { bits = a i; len = b i }
 
-ties_itself : (p : Cidr) → prefix_cmp p p ≡ Equal
+pub ties_itself : (p : Cidr) → prefix_cmp p p ≡ Equal
 ties_itself p = grind (arith, nat_tests)
 
 not_fallen : (p q : Cidr) → prefix_cmp p q ≡ Less → is_lt (prefix_cmp q p) ≡ false
 not_fallen p q h = ap is_lt (prefix_cmp_total.antisymm q p ∙ ap ordering_reverse h)
 
-pub island_found : (list : List IslandPrefix) (p : Cidr) (k : ℕ) (e : IslandPrefix) → k < length list → ((d : IslandPrefix) → prefix_cmp (get_or list k d).prefix p ≡ Equal) → Contains list (of_island (get_or list k e).island p)
+pub island_found : (list : List IslandPrefix) (p : Cidr) (k : ℕ) (e : IslandPrefix)
+    → k < length list → ((d : IslandPrefix) → prefix_cmp (get_or list k d).prefix p ≡ Equal)
+    → Contains list (of_island (get_or list k e).island p)
 island_found list p k e within tie =
     let x = get_or list k e in
-    let same = equal_is x.prefix p (tie e) in
-    (k, within, get_or_default list k (of_island x.island p) e within ∙ (λ i. record { prefix = same i; island = x.island }))
+    let same = equal_is x.prefix p (tie e) in (
+      k,
+      within,
+      get_or_default list k (of_island x.island p) e within
+          ∙ (λ i. record { prefix = same i; island = x.island }),
+    )
 
-pub island_missing : (list : List IslandPrefix) (p : Cidr) (at : ℕ) → IsStrictlySortedBy (on (λ x. x.prefix) prefix_cmp) list
-    → (IsNonDecreasingBy (λ y. ordering_index (prefix_cmp y.prefix p)) list → IsPartitionPoint (λ y. prefix_cmp y.prefix p ≡ Less) (λ y. prefix_cmp y.prefix p ≡ Greater) list at) → (i : DeviceId) → Contains list (of_island i p) → ⊥
+pub island_missing : (list : List IslandPrefix) (p : Cidr) (at : ℕ)
+    → IsStrictlySortedBy (on (λ x. x.prefix) prefix_cmp) list
+    → (IsNonDecreasingBy (λ y. ordering_index (prefix_cmp y.prefix p)) list
+    → IsPartitionPoint (λ y. prefix_cmp y.prefix p ≡ Less)
+    (λ y. prefix_cmp y.prefix p ≡ Greater) list at) → (i : DeviceId)
+    → Contains list (of_island i p) → ⊥
 island_missing list p at up parted i (k, within, is) =
-    let sorted : IsSortedBy (λ a b. is_lt (prefix_cmp a.prefix b.prefix)) list = λ j d low lt. not_fallen (get_or list j d).prefix (get_or list (j + 1) d).prefix (Less-from_sorted (on (λ (x : IslandPrefix). x.prefix) prefix_cmp) list j (j + 1) d up (omega arith) lt) in
-    let parts = parted (searchable_from_sorted prefix_cmp_total (λ (x : IslandPrefix). x.prefix) list p sorted) in
+    let sorted : IsSortedBy (λ a b. is_lt (prefix_cmp a.prefix b.prefix)) list =
+    λ j d low lt. not_fallen (get_or list j d).prefix (get_or list (j + 1) d).prefix
+    (Less-from_sorted (on (λ (x : IslandPrefix). x.prefix) prefix_cmp) list j (j + 1) d up
+    (omega arith) lt) in
+    let parts =
+    parted
+    (searchable_from_sorted prefix_cmp_total
+    (λ (x : IslandPrefix). x.prefix) list p sorted) in
     let e = of_island i p in
-    let here : prefix_cmp (get_or list k e).prefix p ≡ Equal = ap (λ (x : IslandPrefix). prefix_cmp x.prefix p) is ∙ ties_itself p in
+    let here : prefix_cmp (get_or list k e).prefix p ≡ Equal =
+    ap (λ (x : IslandPrefix). prefix_cmp x.prefix p) is ∙ ties_itself p in
     elim (cases_lt k at) [
-      | inl low ↦ let less : prefix_cmp (get_or list k e).prefix p ≡ Less = parts.0 k e (omega arith) low in cc
-      | inr high ↦ let more : prefix_cmp (get_or list k e).prefix p ≡ Greater = parts.1 k e high within in cc
+      | inl low ↦ let less : prefix_cmp (get_or list k e).prefix p ≡ Less =
+          parts.0 k e (omega arith) low in cc
+      | inr high ↦ let more : prefix_cmp (get_or list k e).prefix p ≡ Greater =
+          parts.1 k e high within in cc
     ]

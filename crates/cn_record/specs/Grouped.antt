@@ -28,14 +28,18 @@ abbrev pub is_member : DeviceId → Member → Bool
 is_member island m = same_device m.island island
 
 -- the devices that have a label, each with it
-pub record AreMembers (net : Network) (label : DeviceId → Option DeviceId) (members : List Member) : Type 0 where
+pub record AreMembers (net : Network) (label : DeviceId → Option DeviceId)
+    (members : List Member) : Type 0 where
   pub each : All (λ m. IsDevice net m.device × (label m.device ≡ Some m.island)) members
-  pub all : (d i : DeviceId) → IsDevice net d → label d ≡ Some i → Contains members (record { island = i; device = d })
+  pub all : (d i : DeviceId) → IsDevice net d → label d ≡ Some i
+      → Contains members (record { island = i; device = d })
 
 -- the devices of the island with the label i, by their numbers
-pub record AreOfIsland (net : Network) (label : DeviceId → Option DeviceId) (i : DeviceId) (part : List Member) : Type 0 where
+pub record AreOfIsland (net : Network) (label : DeviceId → Option DeviceId) (i : DeviceId)
+    (part : List Member) : Type 0 where
   pub each : All (λ m. IsDevice net m.device × (label m.device ≡ Some i)) part
-  pub all : (d : DeviceId) → IsDevice net d → label d ≡ Some i → Contains part (record { island = i; device = d })
+  pub all : (d : DeviceId) → IsDevice net d → label d ≡ Some i
+      → Contains part (record { island = i; device = d })
   pub rises : IsNonDecreasingBy (λ m. m.device.0) part
 
 -- ---- prefixes
@@ -46,16 +50,21 @@ of_island i p = record { prefix = p; island = i }
 
 -- no prefix of an island is originated elsewhere
 abbrev pub HasOwnPrefixes : Network → (DeviceId → Option DeviceId) → Type 0
-HasOwnPrefixes net label = (i d x : DeviceId) (p : Cidr) → label d ≡ Some i → Originates net d p → Originates net x p → label x ≡ Some i
+HasOwnPrefixes net label = (i d x : DeviceId) (p : Cidr) → label d ≡ Some i → Originates net d p
+    → Originates net x p → label x ≡ Some i
 
 -- the prefixes that islands originate, each once, with the island that does
-pub record AreIslandPrefixes (net : Network) (label : DeviceId → Option DeviceId) (list : List IslandPrefix) : Type 0 where
+pub record AreIslandPrefixes (net : Network) (label : DeviceId → Option DeviceId)
+    (list : List IslandPrefix) : Type 0 where
   pub each : All (λ x. IsOfIsland net label x.island x.prefix) list
   pub all : (i : DeviceId) (p : Cidr) → IsOfIsland net label i p → Contains list (of_island i p)
   pub ascending : IsStrictlySortedBy (on (λ x. x.prefix) prefix_cmp) list
 
 -- new has what old has, and the prefixes that d originates, if it is of an island, and no others
-pub record AddsPrefixes (net : Network) (label : DeviceId → Option DeviceId) (d : DeviceId) (old new : List IslandPrefix) : Type 0 where
+pub record AddsPrefixes (net : Network) (label : DeviceId → Option DeviceId) (d : DeviceId)
+    (old new : List IslandPrefix) : Type 0 where
   pub kept : (x : IslandPrefix) → Contains old x → Contains new x
-  pub added : (i : DeviceId) (p : Cidr) → label d ≡ Some i → IsSome (own_origin net d p) → Contains new (of_island i p)
-  pub only : (x : IslandPrefix) → Contains new x → Contains old x ⊎ IsOfIsland net label x.island x.prefix
+  pub added : (i : DeviceId) (p : Cidr) → label d ≡ Some i → IsSome (own_origin net d p)
+      → Contains new (of_island i p)
+  pub only : (x : IslandPrefix) → Contains new x
+      → Contains old x ⊎ IsOfIsland net label x.island x.prefix

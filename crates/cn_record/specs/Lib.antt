@@ -1,8 +1,10 @@
-pub mod Differing
 pub mod Grouped
+pub mod Places
 pub mod Recorded
 pub mod Repeats
+pub mod Rounds
 pub mod Rows
 pub mod Said
+pub mod Steps
 pub mod Tables
 pub mod Unsound

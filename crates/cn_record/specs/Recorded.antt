@@ -24,7 +24,8 @@ pub record IsRecorded (r : RecordedOpening) : Type 0 where
   pub ascending : AscendsByPair r.rows
   pub sound : SaysSound r.opening r.rows
 
--- what a `Recorded` keeps beside that: the prefixes that islands originate, which no contract speaks of
+-- what a `Recorded` keeps beside that: the prefixes that islands originate, which no contract
+-- speaks of
 pub record IsKept (r : RecordedOpening) (list : List IslandPrefix) : Type 0 where
   pub recorded : IsRecorded r
   pub prefixes : AreIslandPrefixes r.opening.net (label_of r.opening.labels) list

@@ -5,7 +5,8 @@ use Rattle.cn_record.specs.declared.saved.Row.{Row}
 
 -- whether the row at a place and the next one have one device and prefix
 abbrev pub tie_at : List Row → ℕ → Row → Bool
-tie_at rows k d = is_row (slice_index_or rows k d).device (slice_index_or rows k d).prefix (slice_index_or rows (k + 1) d)
+tie_at rows k d = is_row (slice_index_or rows k d).device (slice_index_or rows k d).prefix
+    (slice_index_or rows (k + 1) d)
 
 -- no row below this place has the device and prefix of the row before it
 abbrev pub HasNoTieBelow : List Row → ℕ → Type 0

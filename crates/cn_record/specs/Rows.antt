@@ -20,7 +20,8 @@ is_row d p r = same_device r.device d && same_prefix r.prefix p
 abbrev pub row_for : List Row → DeviceId → Cidr → Option Choice
 row_for rows d p = option_map (λ r. r.choice) (find (is_row d p) rows)
 
--- devices go by their numbers, and the prefixes of one device by their bits and then by their lengths
+-- devices go by their numbers, and the prefixes of one device by their bits and then by their
+-- lengths
 abbrev pub pair_cmp : DeviceId × Cidr → DeviceId × Cidr → Ordering
 pair_cmp = then_cmp (on (λ x. x.0.0) nat_cmp) (on (λ x. x.1) prefix_cmp)
 

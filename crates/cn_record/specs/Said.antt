@@ -1,5 +1,5 @@
--- What an outside device says: its rows for the prefixes that its island originates, and nothing else.
--- Below, `label d` is the label of d's island.
+-- What an outside device says: its rows for the prefixes that its island originates, and nothing
+-- else. Below, `label d` is the label of d's island.
 use Rattle.std.specs.Prelude.{◌&&◌, Bool, List, length, nat_lt, Option, None, is_some, if◌then◌else◌}
 use Rattle.std.specs.List.{list_any}
 use Rattle.std.specs.Option.{option_eq}
@@ -18,7 +18,9 @@ is_one_island label d x = is_some (label d) && option_eq same_device (label d) (
 
 -- d is a device, and some device of its island originates p
 unfoldable pub island_originates : Network → (DeviceId → Option DeviceId) → DeviceId → Cidr → Bool
-island_originates net label d p = nat_lt d.0 (length net.devices) && list_any (λ x. is_one_island label d x && is_some (own_origin net x p)) (device_ids net)
+island_originates net label d p =
+    nat_lt d.0 (length net.devices)
+    && list_any (λ x. is_one_island label d x && is_some (own_origin net x p)) (device_ids net)
 
 -- the row of d and p where d's island originates p, and nothing where it doesn't
 unfoldable pub said : Network → (DeviceId → Option DeviceId) → List Row → Assignment

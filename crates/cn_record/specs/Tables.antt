@@ -1,5 +1,5 @@
 -- What each device holds for one prefix, in a list, and what the devices then decide.
-use Rattle.std.specs.Prelude.{◌≡◌, ◌+◌, Bool, true, false, not, min, List, length, Option, None, Some, option_map, slice_index_or, slice_set}
+use Rattle.std.specs.Prelude.{◌+◌, Bool, true, false, not, min, List, length, Option, None, Some, option_map, slice_index_or, slice_set}
 use Rattle.std.specs.List.{fold}
 use Rattle.cn_base.specs.Cidr.{Cidr}
 use Rattle.cn_base.specs.Rank.{ranks_before}
@@ -9,9 +9,7 @@ use Rattle.cn_base.specs.declared.route.Choice.{Choice}
 use Rattle.cn_decide.specs.Decide.{with_rank}
 use Rattle.cn_decide.specs.declared.Ranked.{Ranked}
 use Rattle.cn_net.specs.Candidates.{best_of, rank_of, usable}
-use Rattle.cn_net.specs.Islands.{holds_device}
-use Rattle.cn_net.specs.Network.{Network, IsDevice, router_of}
-use Rattle.cn_net.specs.OneState.{IsStableFor}
+use Rattle.cn_net.specs.Network.{Network, router_of}
 use Rattle.cn_net.specs.Stable.{Assignment, offers_to}
 
 -- the assignment that a table for one prefix stands for
@@ -54,11 +52,3 @@ turn net p table d = slice_set table d.0 (decided net p table d)
 -- the table when these devices have decided, one after the other
 abbrev pub round_of : Network → Cidr → List (Option Choice) → List DeviceId → List (Option Choice)
 round_of net p table ds = fold (turn net p) table ds
-
--- these devices hold their best of what they offer each other, and the others hold nothing
-pub record IsSettled (net : Network) (p : Cidr) (ds : List DeviceId)
-    (table : List (Option Choice)) : Type 0 where
-  pub size : length table ≡ length net.devices
-  pub others : (d : DeviceId) → IsDevice net d → holds_device ds d ≡ false
-      → held_of table d p ≡ None
-  pub stable : IsStableFor net (holds_device ds) p (held_of table)

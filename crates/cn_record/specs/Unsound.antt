@@ -19,7 +19,8 @@ use Rattle.cn_record.specs.declared.saved.Row.{Row}
 abbrev pub IsOutsideState : Opening → Assignment → Type 0
 IsOutsideState o state = IsStable (restricted o.net (outside_of o.emulated)) state
 
--- d is an outside device whose island originates p, and what it says of p isn't what it holds in that state
+-- d is an outside device whose island originates p, and what it says of p isn't what it holds in
+-- that state
 pub record IsUnsound (o : Opening) (rows : List Row) (d : DeviceId) (p : Cidr) : Type 0 where
   pub is_device : IsDevice o.net d
   pub island : DeviceId
@@ -27,8 +28,10 @@ pub record IsUnsound (o : Opening) (rows : List Row) (d : DeviceId) (p : Cidr) :
   pub of_island : IsOfIsland o.net (label_of o.labels) island p
   pub differs : (state : Assignment) → IsOutsideState o state → said_by o rows d p ≢ state d p
 
--- d and p are the first such device and prefix; held is what their row says, and wanted is what d holds in that state
-pub record IsFirstUnsound (o : Opening) (rows : List Row) (d : DeviceId) (p : Cidr) (held wanted : Option Choice) : Type 0 where
+-- d and p are the first such device and prefix; held is what their row says, and wanted is what d
+-- holds in that state
+pub record IsFirstUnsound (o : Opening) (rows : List Row) (d : DeviceId) (p : Cidr)
+    (held wanted : Option Choice) : Type 0 where
   pub unsound : IsUnsound o rows d p
   pub first : (x : DeviceId) (q : Cidr) → IsUnsound o rows x q → StandsBefore x q d p → ⊥
   pub held_is : held ≡ row_for rows d p

@@ -9,6 +9,7 @@ ghost use Rattle.cn_net.specs.Islands.{label_of};
 ghost use Rattle.cn_record.specs.Grouped.{AddsPrefixes, AreIslandPrefixes, AreMembers, HasOwnPrefixes, IsByIsland, is_member, of_island};
 
 use cn_base::{DeviceId, Prefix};
+use cn_lists::part_at;
 use cn_net::{Labels, Net, Own};
 use std::alloc::{AllocError, Global};
 
@@ -47,10 +48,7 @@ pub fn of_island(members: &[Member], island: DeviceId) -> &[Member]
     requires { IsByIsland members.now }
     ensures { result.now ≡ filter (is_member island) members.now }
 {
-    let end = members.partition_point(|member| member.island <= island);
-    let front = &members[..end];
-    let start = front.partition_point(|member| member.island < island);
-    &front[start..]
+    part_at(members, &island, |member| member.island)
 }
 
 // Puts the prefixes of a device of an island at the end.
@@ -59,7 +57,8 @@ fn add_own(
     island: DeviceId,
     own: &[Own],
 ) -> Result<(), AllocError>
-    ensures { OnOk result (prefixes.new.items ≡ prefixes.old.items ++ map (λ o. of_island island o.prefix) own.now) }
+    ensures { OnOk result
+        (prefixes.new.items ≡ prefixes.old.items ++ map (λ o. of_island island o.prefix) own.now) }
 {
     for item in own {
         prefixes.push(IslandPrefix {
@@ -77,7 +76,8 @@ fn add_device(
     labels: &Labels,
     device: DeviceId,
 ) -> Result<(), AllocError>
-    ensures { OnOk result (AddsPrefixes net.now (label_of labels.now) device prefixes.old.items prefixes.new.items) }
+    ensures { OnOk result
+        (AddsPrefixes net.now (label_of labels.now) device prefixes.old.items prefixes.new.items) }
 {
     match (labels.of(device), net.device(device)) {
         (Some(island), Some(found)) => add_own(prefixes, island, found.body.own.items()),
@@ -106,7 +106,9 @@ pub fn island_prefixes(
 /// The island that originates a prefix. None comes exactly where no island does.
 pub fn island_of(prefixes: &[IslandPrefix], prefix: &Prefix) -> Option<DeviceId>
     requires { IsStrictlySortedBy (on (λ x. x.prefix) prefix_cmp) prefixes.now }
-    ensures { MatchOption result ((i : DeviceNumber) → Contains prefixes.now (of_island i prefix.now) → ⊥) (λ i. Contains prefixes.now (of_island i prefix.now)) }
+    ensures { MatchOption result
+        ((i : DeviceNumber) → Contains prefixes.now (of_island i prefix.now) → ⊥)
+        (λ i. Contains prefixes.now (of_island i prefix.now)) }
 {
     match prefixes.binary_search_by_key(prefix, |item| item.prefix) {
         Ok(place) => Some(prefixes[place].island),

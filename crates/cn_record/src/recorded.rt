@@ -4,6 +4,7 @@ ghost use Rattle.std.specs.Prelude.{◌≡◌, IsTrue, option_copied};
 ghost use Rattle.cn_net.specs.Islands.{label_of};
 ghost use Rattle.cn_record.specs.Grouped.{AreIslandPrefixes};
 ghost use Rattle.cn_record.specs.Recorded.{IsRecorded, SaysSound};
+ghost use Rattle.cn_record.specs.Rows.{AscendsByPair};
 ghost use Rattle.cn_record.specs.Said.{island_originates, said_by};
 
 use crate::islands::{IslandPrefix, island_of};
@@ -12,8 +13,8 @@ use cn_base::{Choice, DeviceId, Prefix};
 use cn_net::Certified;
 use std::marker::Model;
 
-/// A certified opening with rows of its outside devices, which are sound. Contracts see the opening and
-/// the rows.
+/// A certified opening with rows of its outside devices, which are sound. Contracts see the opening
+/// and the rows.
 #[derive(Debug, Drop)]
 pub struct Recorded {
     certified: Certified,
@@ -28,14 +29,16 @@ impl Model for Recorded {
 
     ghost view = { λ r. record { opening = r.certified; rows = r.saved } };
 
-    ghost invariant = { λ r. IsKept (record { opening = r.certified; rows = r.saved }) r.prefixes.items };
+    ghost invariant = { λ r.
+        IsKept (record { opening = r.certified; rows = r.saved }) r.prefixes.items };
 }
 
 impl Recorded {
     // The opening with these rows, and the prefixes of the islands.
     pub(crate) fn make(certified: Certified, saved: Saved, prefixes: Vec<IslandPrefix>) -> Recorded
         requires sound { SaysSound certified saved }
-        requires prefixes { AreIslandPrefixes certified.net (label_of certified.labels) prefixes.items }
+        requires prefixes { AreIslandPrefixes certified.net
+            (label_of certified.labels) prefixes.items }
         ensures { result ≡ record { opening = certified; rows = saved } }
     {
         // These two tell what the types of the parts keep.
@@ -48,8 +51,8 @@ impl Recorded {
         }
     }
 
-    /// Does nothing: the records are sound by their type, and a proof that needs to know so cites this
-    /// call.
+    /// Does nothing: the records are sound by their type, and a proof that needs to know so cites
+    /// this call.
     pub fn valid(&self)
         ensures { IsRecorded self.now }
     {
@@ -65,14 +68,16 @@ impl Recorded {
 
     /// All rows, by device, then by prefix.
     pub fn rows(&self) -> &[Row]
-        ensures { result.now ≡ self.now.rows }
+        ensures same { result.now ≡ self.now.rows }
+        ensures ascending { AscendsByPair self.now.rows }
     {
         self.saved.rows()
     }
 
     // Holds where the device is of an island that originates the prefix.
     fn is_of_island(&self, device: DeviceId, prefix: &Prefix) -> bool
-        ensures { result ≡ island_originates self.now.opening.net (label_of self.now.opening.labels) device prefix.now }
+        ensures { result ≡ island_originates self.now.opening.net
+            (label_of self.now.opening.labels) device prefix.now }
     {
         if device.0 >= self.certified.net().count() {
             return false;
@@ -83,8 +88,8 @@ impl Recorded {
         }
     }
 
-    /// What a device says of a prefix: its row. None comes exactly where there is no such row, or the
-    /// device isn't of an island that originates the prefix.
+    /// What a device says of a prefix: its row. None comes exactly where there is no such row, or
+    /// the device isn't of an island that originates the prefix.
     #[tactic(auto, unfolding(crate::specs::Said::said))]
     pub fn said(&self, device: DeviceId, prefix: &Prefix) -> Option<&Choice>
         ensures { option_copied result ≡ said_by self.now.opening self.now.rows device prefix.now }

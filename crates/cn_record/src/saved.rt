@@ -79,8 +79,8 @@ fn first_repeat(rows: &[Row]) -> Option<usize>
 }
 
 impl Saved {
-    /// These rows, in order. A fault comes exactly where two of them have one device and prefix, and names
-    /// the least such pair. The rows are sorted in place, and it takes no memory.
+    /// These rows, in order. A fault comes exactly where two of them have one device and prefix,
+    /// and names the least such pair. The rows are sorted in place, and it takes no memory.
     pub fn make(rows: Vec<Row>) -> Result<Saved, SavedFault>
         ensures rows { IfOk result (IsPermutation rows.items) }
         ensures once { OnOk result ((d : DeviceNumber) (p : Cidr) → IsRepeated rows.items d p → ⊥) }

@@ -1,23 +1,27 @@
 //! Whether the records of the outside devices are sound.
 
-ghost use Rattle.std.specs.Prelude.{◌≡◌, ◌<◌, All, IfErr, IfOk, MatchOption, OnOk, length, option_copied};
+ghost use Rattle.std.specs.Prelude.{◌≡◌, ◌<◌, ◌↔◌, All, IfErr, IfOk, IsTrue, MatchOption, None, OnOk, false, length, option_copied};
 ghost use Rattle.cn_net.specs.Islands.{label_of};
 ghost use Rattle.cn_net.specs.Records.{IsOfIsland};
-ghost use Rattle.cn_record.specs.Differing.{AgreesAt, AgreesFor, IsEmptyTable, IsFirstAmong, IsFirstApart, IsFirstFor, TellsApart, cleared, earlier_of, is_behind};
-ghost use Rattle.cn_record.specs.Grouped.{AreIslandPrefixes, AreMembers, AreOfIsland, IsByIsland};
+ghost use Rattle.cn_record.specs.Grouped.{AreIslandPrefixes, AreMembers, IsByIsland};
+ghost use Rattle.cn_record.specs.Places.{ArePlaces};
 ghost use Rattle.cn_record.specs.Recorded.{SaysSound};
+ghost use Rattle.cn_record.specs.Rounds.{AreAll, reset};
+ghost use Rattle.cn_record.specs.Steps.{AgreesAt, AgreesFor, IsFirstAmong, IsFirstFor, TellsApart, TellsLeast, earlier_of, is_behind, is_below};
 ghost use Rattle.cn_record.specs.Unsound.{IsFirstUnsound, NamesFirst};
 
+use crate::converge::{converge, is_same};
 use crate::islands::{IslandPrefix, Member, island_prefixes, members, of_island};
+use crate::places::{Places, add_inside, of_prefix, places_of};
 use crate::recorded::Recorded;
 use crate::saved::Saved;
-use crate::settle::{is_same, settle};
 use cn_base::{Choice, DeviceId, Prefix};
 use cn_net::Certified;
 use std::alloc::{AllocError, Global};
 
-/// Why records are refused: what a row says of a device and a prefix of its island, or that there is no
-/// such row, isn't what the device holds where the emulated devices say nothing; or memory is short.
+/// Why records are refused: what a row says of a device and a prefix of its island, or that there
+/// is no such row, isn't what the device holds where the emulated devices say nothing; or memory is
+/// short.
 #[derive(Debug, Drop)]
 pub enum RecordWhy {
     Unsound {
@@ -48,7 +52,7 @@ struct Difference {
 // A table in which no device holds anything.
 fn nothing(alloc: Global, count: u32) -> Result<Vec<Option<Choice>>, AllocError>
     ensures size { IfOk result (λ v. length v.items ≡ count) }
-    ensures empty { IfOk result (λ v. IsEmptyTable v.items) }
+    ensures empty { IfOk result (λ v. AreAll None v.items) }
 {
     let mut table = Vec::new(alloc);
     for _ in 0..count {
@@ -57,13 +61,25 @@ fn nothing(alloc: Global, count: u32) -> Result<Vec<Option<Choice>>, AllocError>
     Ok(table)
 }
 
-// Lets these devices hold nothing.
-fn clear(members: &[Member], table: &mut [Option<Choice>])
-    requires { All (λ m. m.device.0 < length table.old) members.now }
-    ensures { table.new ≡ cleared members.now table.old }
+// A mark for each device, of which none is set.
+fn unmarked(alloc: Global, count: u32) -> Result<Vec<bool>, AllocError>
+    ensures size { IfOk result (λ v. length v.items ≡ count) }
+    ensures empty { IfOk result (λ v. AreAll false v.items) }
 {
-    for member in members {
-        table[member.device.0 as usize] = None;
+    let mut marks = Vec::new(alloc);
+    for _ in 0..count {
+        marks.push(false)?;
+    }
+    Ok(marks)
+}
+
+// Lets these devices hold nothing.
+fn clear(devices: &[DeviceId], table: &mut [Option<Choice>])
+    requires { All (λ d. d.0 < length table.old) devices.now }
+    ensures { table.new ≡ reset None devices.now table.old }
+{
+    for device in devices {
+        table[device.0 as usize] = None;
     }
 }
 
@@ -77,46 +93,66 @@ fn copied(alloc: Global, choice: Option<&Choice>) -> Result<Option<Choice>, Allo
     }
 }
 
-// The place of the first of these devices whose row isn't what the table has for it.
-fn first_apart(
-    saved: &Saved,
-    members: &[Member],
-    prefix: &Prefix,
-    table: &[Option<Choice>],
-) -> Option<usize>
-    requires { All (λ m. m.device.0 < length table.now) members.now }
-    ensures { MatchOption result (All (λ m. AgreesAt saved.now prefix.now table.now m.device) members.now) (IsFirstApart saved.now prefix.now table.now members.now) }
+// Holds where the row of a device, or its absence, is what the table has for it.
+fn agrees(saved: &Saved, device: DeviceId, prefix: &Prefix, table: &[Option<Choice>]) -> bool
+    requires { device.0 < length table.now }
+    ensures { IsTrue result ↔ AgreesAt saved.now prefix.now table.now device }
 {
-    for (place, member) in members.iter().enumerate() {
-        let held = saved.find(member.device, prefix);
-        if !is_same(held, table[member.device.0 as usize].as_ref()) {
-            return Some(place);
-        }
-    }
-    None
+    is_same(
+        saved.find(device, prefix),
+        table[device.0 as usize].as_ref(),
+    )
 }
 
-// The first of these devices whose row isn't what the table has for it, with both.
+// Holds where a device stands before the least so far.
+fn is_below(device: DeviceId, least: Option<DeviceId>) -> bool
+    ensures { result ≡ is_below device least }
+{
+    match least {
+        Some(least) => device < least,
+        None => true,
+    }
+}
+
+// The least of these devices whose row isn't what the table has for it.
+fn least_apart(
+    saved: &Saved,
+    devices: &[DeviceId],
+    prefix: &Prefix,
+    table: &[Option<Choice>],
+) -> Option<DeviceId>
+    requires { All (λ d. d.0 < length table.now) devices.now }
+    ensures { TellsApart saved.now prefix.now table.now devices.now result }
+{
+    let mut least = None;
+    for device in devices {
+        if is_below(*device, least) && !agrees(saved, *device, prefix, table) {
+            least = Some(*device);
+        }
+    }
+    least
+}
+
+// The least of these devices whose row isn't what the table has for it, with both.
 fn first_difference(
     alloc: Global,
     saved: &Saved,
-    members: &[Member],
+    devices: &[DeviceId],
     prefix: &Prefix,
     table: &[Option<Choice>],
 ) -> Result<Option<Difference>, AllocError>
-    requires { All (λ m. m.device.0 < length table.now) members.now }
-    ensures { IfOk result (λ found. MatchOption found (All (λ m. AgreesAt saved.now prefix.now table.now m.device) members.now) (TellsApart saved.now prefix.now table.now members.now)) }
+    requires { All (λ d. d.0 < length table.now) devices.now }
+    ensures { IfOk result (λ found. MatchOption found
+        (All (AgreesAt saved.now prefix.now table.now) devices.now)
+        (TellsLeast saved.now prefix.now table.now devices.now)) }
 {
-    match first_apart(saved, members, prefix, table) {
-        Some(place) => {
-            let device = members[place].device;
-            Ok(Some(Difference {
-                device,
-                prefix: *prefix,
-                held: copied(alloc, saved.find(device, prefix))?,
-                wanted: copied(alloc, table[device.0 as usize].as_ref())?,
-            }))
-        }
+    match least_apart(saved, devices, prefix, table) {
+        Some(device) => Ok(Some(Difference {
+            device,
+            prefix: *prefix,
+            held: copied(alloc, saved.find(device, prefix))?,
+            wanted: copied(alloc, table[device.0 as usize].as_ref())?,
+        })),
         None => Ok(None),
     }
 }
@@ -138,32 +174,54 @@ fn earlier_of(first: Option<Difference>, next: Option<Difference>) -> Option<Dif
     }
 }
 
-// What differs first of one prefix, when the devices of its island have settled over an empty table, which
-// is empty again afterwards.
+// What differs first of one prefix, when its island has converged over an empty table. Rows and
+// table are compared where a device holds something or has a row. The table is empty again
+// afterwards.
 fn prefix_difference(
     alloc: Global,
     certified: &Certified,
     saved: &Saved,
+    places: &Places,
     item: &IslandPrefix,
-    devices: &[Member],
     table: &mut [Option<Choice>],
+    marks: &mut [bool],
 ) -> Result<Option<Difference>, AllocError>
     requires size { length table.old ≡ length certified.now.net.devices }
-    requires empty { IsEmptyTable table.old }
-    requires own { IsOfIsland certified.now.net (label_of certified.now.labels) item.now.island item.now.prefix }
-    requires devices { AreOfIsland certified.now.net (label_of certified.now.labels) item.now.island devices.now }
-    ensures empty { OnOk result (IsEmptyTable table.new) }
-    ensures found { IfOk result (λ found. MatchOption found (AgreesFor certified.now saved.now item.now) (IsFirstFor certified.now saved.now item.now)) }
+    requires empty { AreAll None table.old }
+    requires marks { length marks.old ≡ length certified.now.net.devices }
+    requires unmarked { AreAll false marks.old }
+    requires places { ArePlaces certified.now.net saved.now places.now }
+    requires own { IsOfIsland certified.now.net (label_of certified.now.labels)
+        item.now.island item.now.prefix }
+    ensures empty { OnOk result (AreAll None table.new) }
+    ensures unmarked { OnOk result (AreAll false marks.new) }
+    ensures found { IfOk result (λ found. MatchOption found
+        (AgreesFor certified.now saved.now item.now)
+        (IsFirstFor certified.now saved.now item.now)) }
 {
     certified.valid();
-    settle(alloc, certified.net(), devices, &item.prefix, table)?;
-    let found = first_difference(alloc, saved, devices, &item.prefix, table)?;
-    clear(devices, table);
+    let IslandPrefix { prefix, island } = *item;
+    let (net, labels) = (certified.net(), certified.labels());
+    let originators = of_prefix(&places.originators, &prefix);
+    let recorded = of_prefix(&places.recorded, &prefix);
+    let mut devices = converge(
+        alloc,
+        net,
+        labels,
+        island,
+        &prefix,
+        originators,
+        table,
+        marks,
+    )?;
+    add_inside(&mut devices, net, labels, island, recorded)?;
+    let found = first_difference(alloc, saved, &devices, &prefix, table)?;
+    clear(&devices, table);
     Ok(found)
 }
 
-// Holds where something differs already at a device that isn't above the first of these: for a greater
-// prefix none of them comes before it.
+// Holds where something differs already at a device that isn't above the first of these: for a
+// greater prefix none of them comes before it.
 fn is_behind(first: &Option<Difference>, devices: &[Member]) -> bool
     ensures { result ≡ is_behind first.now devices.now }
 {
@@ -174,28 +232,37 @@ fn is_behind(first: &Option<Difference>, devices: &[Member]) -> bool
     }
 }
 
-// What differs first of these prefixes, at the least device, then at the least prefix. The table is empty.
+// What differs first of these prefixes, at the least device, then at the least prefix. The table
+// and the marks are empty.
 fn first_unsound(
     alloc: Global,
     certified: &Certified,
     saved: &Saved,
+    places: &Places,
     members: &[Member],
     prefixes: &[IslandPrefix],
     table: &mut [Option<Choice>],
+    marks: &mut [bool],
 ) -> Result<Option<Difference>, AllocError>
     requires size { length table.old ≡ length certified.now.net.devices }
-    requires empty { IsEmptyTable table.old }
+    requires empty { AreAll None table.old }
+    requires marks { length marks.old ≡ length certified.now.net.devices }
+    requires unmarked { AreAll false marks.old }
+    requires places { ArePlaces certified.now.net saved.now places.now }
     requires members { AreMembers certified.now.net (label_of certified.now.labels) members.now }
     requires ordered { IsByIsland members.now }
-    requires prefixes { AreIslandPrefixes certified.now.net (label_of certified.now.labels) prefixes.now }
-    ensures { IfOk result (λ found. MatchOption found (All (AgreesFor certified.now saved.now) prefixes.now) (IsFirstAmong certified.now saved.now prefixes.now)) }
+    requires prefixes { AreIslandPrefixes certified.now.net
+        (label_of certified.now.labels) prefixes.now }
+    ensures { IfOk result
+        (λ found. MatchOption found (All (AgreesFor certified.now saved.now) prefixes.now)
+        (IsFirstAmong certified.now saved.now prefixes.now)) }
 {
     certified.valid();
     let mut first = None;
     for item in prefixes {
         let devices = of_island(members, item.island);
         if !is_behind(&first, devices) {
-            let next = prefix_difference(alloc, certified, saved, item, devices, table)?;
+            let next = prefix_difference(alloc, certified, saved, places, item, table, marks)?;
             first = earlier_of(first, next);
         }
     }
@@ -210,12 +277,19 @@ fn examined(
     prefixes: &[IslandPrefix],
 ) -> Result<Option<Difference>, AllocError>
     requires { AreIslandPrefixes certified.now.net (label_of certified.now.labels) prefixes.now }
-    ensures { IfOk result (λ found. MatchOption found (SaysSound certified.now saved.now) (λ x. IsFirstUnsound certified.now saved.now x.device x.prefix x.held x.wanted)) }
+    ensures { IfOk result
+        (λ found. MatchOption found (SaysSound certified.now saved.now)
+        (λ x. IsFirstUnsound certified.now saved.now x.device x.prefix x.held x.wanted)) }
 {
     certified.valid();
-    let members = members(alloc, certified.net(), certified.labels())?;
-    let mut table = nothing(alloc, certified.net().count())?;
-    first_unsound(alloc, certified, saved, &members, prefixes, &mut table)
+    let net = certified.net();
+    let members = members(alloc, net, certified.labels())?;
+    let places = places_of(alloc, net, saved.rows())?;
+    let mut table = nothing(alloc, net.count())?;
+    let mut marks = unmarked(alloc, net.count())?;
+    first_unsound(
+        alloc, certified, saved, &places, &members, prefixes, &mut table, &mut marks,
+    )
 }
 
 // A difference, as a reason.
@@ -230,10 +304,10 @@ fn unsound(found: Difference) -> RecordWhy
     }
 }
 
-/// A certified opening with these rows, if they are sound: where each outside device says, of each prefix
-/// that its island originates, what it holds in the one stable state of the outside devices alone. A
-/// refusal names the least device that doesn't, and then the least prefix. The opening is handed back
-/// with it, and for want of memory.
+/// A certified opening with these rows, if they are sound: where each outside device says, of each
+/// prefix that its island originates, what it holds in the one stable state of the outside devices
+/// alone. A refusal names the least device that doesn't, and then the least prefix. The opening is
+/// handed back with it, and for want of memory.
 pub fn check(alloc: Global, certified: Certified, saved: Saved) -> Result<Recorded, Unrecorded>
     ensures ok { IfOk result (λ recorded. recorded ≡ record { opening = certified; rows = saved }) }
     ensures sound { OnOk result (SaysSound certified saved) }

@@ -12,5 +12,10 @@ returns-in-Some-Some c =
     let new = c.add_own.new.prefixes.items in
     let i = c.in-Some-Some.island in
     on_ok_weaker c.add_own.result
-    (λ (e : new ≡ old ++ map (λ (o : Own). of_island i o.prefix) c.items.result.now). own_added c.args.net.now (label_of c.args.labels.now) c.args.device i c.in-Some-Some.found.now old new c.in-Some-Some.ensures c.in-Some-Some.ensures' (e ∙ ap (λ z. old ++ map (λ (o : Own). of_island i o.prefix) z) c.items.ensures))
+    (λ (e : new ≡ old ++ map (λ (o : Own). of_island i o.prefix) c.items.result.now).
+    own_added c.args.net.now
+    (label_of c.args.labels.now) c.args.device i c.in-Some-Some.found.now old new
+    c.in-Some-Some.ensures c.in-Some-Some.ensures'
+    (e ∙ ap
+    (λ z. old ++ map (λ (o : Own). of_island i o.prefix) z) c.items.ensures))
     c.add_own.ensures

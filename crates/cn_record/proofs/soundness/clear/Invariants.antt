@@ -1,6 +1,6 @@
-use Rattle.std.proofs.Common.{◌≡◌, take}
-use Rattle.cn_record.specs.Differing.{cleared}
+use Rattle.std.proofs.Common.{◌≡◌, None, take}
+use Rattle.cn_record.specs.Rounds.{reset}
 use Rattle.cn_record.proofs.soundness.clear.Given as goal
 
-abbrev pub invariant-loop-member : goal.invariant-loop-member
-invariant-loop-member l = l.table ≡ cleared (take l.member-index l.members) l.initial.table
+abbrev pub invariant-loop-device : goal.invariant-loop-device
+invariant-loop-device l = l.table ≡ reset None (take l.device-index l.devices) l.initial.table

@@ -1,6 +1,7 @@
-use Rattle.std.proofs.Common.{◌≡◌, length}
-use Rattle.cn_record.specs.Differing.{IsEmptyTable}
+use Rattle.std.proofs.Common.{◌≡◌, None, length}
+use Rattle.cn_record.specs.Rounds.{AreAll}
 use Rattle.cn_record.proofs.soundness.nothing.Given as goal
 
 abbrev pub invariant-loop : goal.invariant-loop
-invariant-loop l = record { size : length l.table.items ≡ l.counter; empty : IsEmptyTable l.table.items }
+invariant-loop l =
+    record { size : length l.table.items ≡ l.counter; empty : AreAll None l.table.items }

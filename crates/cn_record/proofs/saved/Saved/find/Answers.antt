@@ -10,16 +10,24 @@ returns-in-Ok c =
     let rows = c.self.inside.rows.items in
     let d = c.args.device in
     let p = c.args.prefix.now in
-    let here = rw c.deref.ensures.value at (c.in-Ok.ensures.position pair_of (answers_always _ _ _ (λ f a r g called. search rules))) in
+    let here =
+    rw c.deref.ensures.value at
+    (c.in-Ok.ensures.position pair_of
+    (answers_always _ _ _ (λ f a r g called. search rules))) in
     let inside = rw c.deref.ensures.value at c.in-Ok.ensures.bound in
     let read = c.index.result.now in
-    sym (ap (λ z. row_for z d p) (sym c.self.view_is) ∙ found_at rows d p c.self.invariant c.in-Ok.place read inside (here read) ∙ ap (λ r. Some r.choice) (sym c.index.ensures))
+    sym (ap (λ z. row_for z d p) (sym c.self.view_is)
+    ∙ found_at rows d p c.self.invariant c.in-Ok.place read inside (here read)
+    ∙ ap (λ r. Some r.choice) (sym c.index.ensures))
 
 pub returns-in-Err : goal.returns-in-Err
 returns-in-Err c =
     let rows = c.self.inside.rows.items in
     let d = c.args.device in
     let p = c.args.prefix.now in
-    let parted = rw c.deref.ensures.value at (c.in-Err.ensures.position pair_of (answers_always _ _ _ (λ f a r g called. search rules))) in
+    let parted = rw c.deref.ensures.value at
+    (c.in-Err.ensures.position pair_of
+    (answers_always _ _ _ (λ f a r g called. search rules))) in
     let inside = rw c.deref.ensures.value at c.in-Err.ensures.bound in
-    sym (ap (λ z. row_for z d p) (sym c.self.view_is) ∙ found_nowhere rows d p c.self.invariant c.in-Err.field-0 inside parted)
+    sym (ap (λ z. row_for z d p) (sym c.self.view_is)
+    ∙ found_nowhere rows d p c.self.invariant c.in-Err.field-0 inside parted)
