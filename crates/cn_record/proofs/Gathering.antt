@@ -18,6 +18,7 @@ use Rattle.std.proofs.lemmas.Option.{none-some, same_Some, slice_get_within}
 use Rattle.cn_base.specs.Cidr.{Cidr, same_prefix}
 use Rattle.cn_base.specs.Table.{prefix_cmp}
 use Rattle.cn_base.specs.declared.ids.DeviceId.{DeviceId}
+use Rattle.cn_lists.proofs.Finding.{Contains-from_is_some_find, Contains-from_map, Contains-map, is_some-find, is_some-option_map}
 use Rattle.cn_net.specs.Network.{Network, IsDevice, device_of, own_of, own_origin, same_device}
 use Rattle.cn_net.specs.Records.{IsOfIsland}
 use Rattle.cn_net.specs.declared.device.Body.{Body}
@@ -100,60 +101,13 @@ members_sorted net label n xs ys all moves so = record {
 
 -- ---- what a device originates
 
-has_nothing : {X : Type 0} (x : X) → Contains [] x → ⊥
-has_nothing x h = let lt = h.1 in omega arith
-
-has_first : {X : Type 0} (z : X) (xs : List X) → Contains (z ∷ xs) z
-has_first z xs = (0, omega arith, refl)
-
-has_later : {X : Type 0} (z : X) (xs : List X) (x : X) → Contains xs x → Contains (z ∷ xs) x
-has_later z xs x h = Contains-append_right (z ∷ []) xs x h
-
-map_from : {X Y : Type 0} (f : X → Y) (xs : List X) (y : Y) → Contains (map f xs) y
-    → (x : X) × Contains xs x × (f x ≡ y)
-map_from f [] y h = absurd (has_nothing y h)
-map_from f (z ∷ zs) y (zero, lt, e) = (z, has_first z zs, e)
-map_from f (z ∷ zs) y (suc k, lt, e) = let s = map_from f zs y (k, omega arith, e) in
-    (s.0, has_later z zs s.0 s.1, s.2)
-
-find_some : {X : Type 0} (p : X → Bool) (xs : List X) (x : X) → Contains xs x → p x ≡ true
-    → is_some (find p xs) ≡ true
-find_some p [] x h t = absurd (has_nothing x h)
-find_some p (z ∷ zs) x (zero, lt, e) t =
-    ap is_some (cond-true (p z) (Some z) (find p zs) (ap p e ∙ t))
-find_some p (z ∷ zs) x (suc k, lt, e) t =
-    elim (cases_Bool (p z)) [
-      | inl s ↦ ap is_some (cond-true (p z) (Some z) (find p zs) s)
-      | inr s ↦ ap is_some (cond-false (p z) (Some z) (find p zs) s)
-          ∙ find_some p zs x (k, omega arith, e) t
-    ]
-
--- what is found of an element, stands in the list that is made of all of them
-found_has : {X Y : Type 0} (p : X → Bool) (f : X → Y) (y : Y) → ((x : X) → p x ≡ true → f x ≡ y)
-    → (xs : List X) → is_some (find p xs) ≡ true → Contains (map f xs) y
-found_has p f y same [] e = absurd (let never : false ≡ true = e in cc)
-found_has p f y same (z ∷ zs) e =
-    elim (cases_Bool (p z)) [
-      | inl t ↦ (0, omega arith, same z t)
-      | inr s ↦
-          has_later (f z) (map f zs) y
-          (found_has p f y same zs
-          (sym (ap is_some (cond-false (p z) (Some z) (find p zs) s)) ∙ e))
-    ]
-
-map_some : {X Y : Type 0} (f : X → Y) (o : Option X) → is_some o ≡ true
-    → is_some (option_map f o) ≡ true
-map_some f None h = h
-map_some f (Some x) h = refl
-
-pub some_map : {X Y : Type 0} (f : X → Y) (o : Option X) → is_some (option_map f o) ≡ true
-    → is_some o ≡ true
-some_map f None h = h
-some_map f (Some x) h = refl
-
+-- prefixes that tie are one
 pub same_is : (p q : Cidr) → same_prefix p q ≡ true → p ≡ q
-same_is p q t = let both = and_parts _ _ t in let a = eqb-true p.bits q.bits both.0 in
-    let b = eqb-true p.len q.len both.1 in λ i. record { bits = a i; len = b i }
+same_is p q t =
+    let both = and_parts _ _ t in
+    let a = eqb-true p.bits q.bits both.0 in
+    let b = eqb-true p.len q.len both.1 in
+    λ i. record { bits = a i; len = b i }
 
 same_itself : (p : Cidr) → same_prefix p p ≡ true
 same_itself p = grind (arith, nat_tests)
@@ -161,21 +115,25 @@ same_itself p = grind (arith, nat_tests)
 own_has : (body : Body) (i : DeviceId) (p : Cidr) → IsSome (own_of body p)
     → Contains (map (λ o. of_island i o.prefix) body.own) (of_island i p)
 own_has body i p some =
-    found_has (λ (o : Own). same_prefix o.prefix p) (λ (o : Own). of_island i o.prefix)
-    (of_island i p) (λ o t. ap (of_island i) (same_is o.prefix p t)) body.own
-    (some_map (λ (o : Own). o.origin) (find (λ (o : Own). same_prefix o.prefix p) body.own) some)
+    let test = λ (o : Own). same_prefix o.prefix p in
+    let there =
+    Contains-from_is_some_find test body.own
+    (sym (is_some-option_map (λ (o : Own). o.origin) (find test body.own)) ∙ some) in
+    Contains-map (λ (o : Own). of_island i o.prefix) body.own there.0 (of_island i p) there.1
+    (ap (of_island i) (same_is there.0.prefix p there.2))
 
 own_from : (body : Body) (i : DeviceId) (x : IslandPrefix)
     → Contains (map (λ o. of_island i o.prefix) body.own) x
     → (x.island ≡ i) × IsSome (own_of body x.prefix)
 own_from body i x h =
-    let s = map_from (λ (o : Own). of_island i o.prefix) body.own x h in
+    let s = Contains-from_map (λ (o : Own). of_island i o.prefix) body.own x h in
     let o = s.0 in
+    let test = λ (z : Own). same_prefix z.prefix x.prefix in
     let at : o.prefix ≡ x.prefix = ap (λ (z : IslandPrefix). z.prefix) s.2 in (
       sym (ap (λ (z : IslandPrefix). z.island) s.2),
-      map_some (λ (z : Own). z.origin) (find (λ (z : Own). same_prefix z.prefix x.prefix) body.own)
-          (find_some (λ (z : Own). same_prefix z.prefix x.prefix) body.own o s.1
-          (subst (λ q. same_prefix o.prefix q ≡ true) at (same_itself o.prefix))),
+      is_some-option_map (λ (z : Own). z.origin) (find test body.own)
+          ∙ is_some-find test body.own o s.1
+          (subst (λ q. same_prefix o.prefix q ≡ true) at (same_itself o.prefix)),
     )
 
 device_within : (net : Network) (d : DeviceId) (x : Device) → Some x ≡ device_of net d

@@ -12,7 +12,7 @@ use Rattle.cn_base.specs.Cidr.{Cidr, same_prefix}
 use Rattle.cn_base.specs.Table.{prefix_cmp}
 use Rattle.cn_base.specs.declared.ids.DeviceId.{DeviceId}
 use Rattle.cn_base.specs.declared.ids.Origin.{Origin}
-use Rattle.cn_lists.proofs.Finding.{Contains-filter, Contains-from_is_some_find, Contains-map}
+use Rattle.cn_lists.proofs.Finding.{Contains-filter, Contains-from_is_some_find, Contains-map, is_some-option_map}
 use Rattle.cn_net.specs.Network.{Network, IsDevice, device_of, own_of, own_origin}
 use Rattle.cn_net.specs.declared.device.Device.{Device}
 use Rattle.cn_net.specs.declared.device.Own.{Own}
@@ -21,7 +21,7 @@ use Rattle.cn_record.specs.Places.{AddsOwn, HasOriginators, HasRowDevices, at_de
 use Rattle.cn_record.specs.Rows.{is_row, row_for}
 use Rattle.cn_record.specs.declared.places.PrefixDevice.{PrefixDevice}
 use Rattle.cn_record.specs.declared.saved.Row.{Row}
-use Rattle.cn_record.proofs.Gathering.{same_is, some_map}
+use Rattle.cn_record.proofs.Gathering.{same_is}
 use Rattle.cn_record.proofs.Lookups.{ties_itself}
 use Rattle.cn_record.proofs.Numbers.{one_more}
 
@@ -39,9 +39,9 @@ module _ (net : Network) (d : DeviceId) where
             ap (option_and_then (λ (x : Device). own_of x.body p)) (sym is) in
             let there =
             Contains-from_is_some_find (λ (o : Own). same_prefix o.prefix p) found.body.own
-            (some_map (λ (o : Own). o.origin)
-            (find (λ (o : Own). same_prefix o.prefix p) found.body.own)
-            (sym (ap is_some own) ∙ some)) in
+            (sym (is_some-option_map (λ (o : Own). o.origin)
+            (find (λ (o : Own). same_prefix o.prefix p) found.body.own))
+            ∙ sym (ap is_some own) ∙ some) in
             Contains-append_right old more (at_device d p)
             (Contains-map (λ (o : Own). at_device d o.prefix) found.body.own there.0 (at_device d p)
             there.1 (ap (at_device d) (same_is there.0.prefix p there.2)));
@@ -91,7 +91,7 @@ pub rows_sorted : (rows : List Row) (ys : List PrefixDevice) → IsPermutation (
 rows_sorted rows ys moves d p some =
     let there =
     Contains-from_is_some_find (is_row d p) rows
-    (some_map (λ (r : Row). r.choice) (find (is_row d p) rows) some) in
+    (sym (is_some-option_map (λ (r : Row). r.choice) (find (is_row d p) rows)) ∙ some) in
     Contains-permutation (map place_of rows) ys (at_device d p) moves
     (Contains-map place_of rows there.0 (at_device d p) there.1 (row_place d p there.0 there.2))
 

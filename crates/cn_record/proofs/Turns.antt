@@ -171,7 +171,7 @@ module _ (net : Network) (label : DeviceId → Option DeviceId) (i : DeviceId) (
         let woken_as : is_woken net label i x choice b
         ≡ is_woken net label i (held_of now d p) (decided net p now d) b =
         (λ j. is_woken net label i (here j) (decides j) b) in
-        let settled : candidate_from net p (turn net p now d) b d ≡ candidate_from net p now b d
+        let unwoken : candidate_from net p (turn net p now d) b d ≡ candidate_from net p now b d
         → Waits waiting (k + 1) b
         ⊎ (Contains more b ⊎ (decided net p (turn net p now d) b
         ≡ held_of (turn net p now d) b p)) =
@@ -198,11 +198,11 @@ module _ (net : Network) (label : DeviceId → Option DeviceId) (i : DeviceId) (
           | inl t ↦ elim (cases_Bool (is_woken net label i x choice b)) [
             | inl w ↦ inr (inl (wakes.added b (t, w)))
             | inr f ↦
-                settled (hears_same net label i p now d b inside l (sym woken_as ∙ f))
+                unwoken (hears_same net label i p now d b inside l (sym woken_as ∙ f))
           ]
           | inr f ↦
               let back : is_linked net b d ≡ false = unlinked_back net d b f in
-              settled (candidate_from-unlinked net p (turn net p now d) b d back
+              unwoken (candidate_from-unlinked net p (turn net p now d) b d back
               ∙ sym (candidate_from-unlinked net p now b d back))
         ]
 

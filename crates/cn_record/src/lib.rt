@@ -6,7 +6,10 @@
 //! of these is what the device holds in the one stable state of the outside devices alone, and else
 //! names the least device, and then the least prefix, of which that isn't so
 //! (`specs/Unsound.antt`). It finds that state by letting the devices of an island decide again and
-//! again (RFC 4271, 9.1.2), one prefix after another.
+//! again (RFC 4271, 9.1.2), one prefix after another: `soundness` goes over the prefixes of the
+//! `islands`, `converge` lets those decide that may decide otherwise, beginning with the
+//! originators that `places` finds, and then rows and table are compared where there is something
+//! to compare. So it costs what routes reach.
 //!
 //! The layer above makes a `Recorded`, which is a certified opening with sound records by its type
 //! (`specs/Recorded.antt`), asks `Recorded::said`, and cites `laws::recorded_boundary` for what
