@@ -3,7 +3,7 @@ use Rattle.std.proofs.Common.{◌≡◌, ℕ, suc, ◌+◌, ◌<◌, Bool, true,
 use Rattle.std.proofs.Math.Numerals.{add-one}
 use Rattle.std.specs.Prelude.{All}
 use Rattle.std.proofs.lemmas.Bool.{cases_Bool, cases_eq, false≢true, or_cases, or_parts, eqb-false}
-use Rattle.std.proofs.lemmas.List.{get_or-set_other, get_or-set_same, get_or_default, length-set}
+use Rattle.std.proofs.lemmas.List.{get_or-set_other, get_or-set_same, length-set}
 use Rattle.std.proofs.lemmas.List.Elements.{All-contains, All-head, All-tail}
 use Rattle.std.proofs.lemmas.Option.{none-some}
 use Rattle.cn_base.specs.Cidr.{Cidr}
@@ -16,7 +16,7 @@ use Rattle.cn_net.specs.Network.{Network, HasDistinctIds, IsDevice, same_device}
 use Rattle.cn_net.specs.OneState.{IsStableFor}
 use Rattle.cn_net.specs.Stable.{Assignment, offer_of, offers_to}
 use Rattle.cn_net.proofs.Candidates.{best_where}
-use Rattle.cn_net.proofs.Members.{contained, held, same_number}
+use Rattle.cn_net.proofs.Members.{contained, same_number}
 use Rattle.cn_net.proofs.OneState.{HasShorter, best_followed, same_option}
 use Rattle.cn_net.proofs.Rounds.{best_short, decided_best}
 use Rattle.cn_net.proofs.States.{has_one_state_for}

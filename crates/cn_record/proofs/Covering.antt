@@ -1,6 +1,6 @@
 -- The devices at which rows and table are compared are all at which they may differ, and the least
 -- of them is found one after another.
-use Rattle.std.proofs.Common.{◌≡◌, ◌<◌, ◌++◌, true, false, List, [], ◌∷◌, length, map, nat_lt, is_some, Option, Some, None, sym, ap, subst, ◌∙◌, inl, inr, arith}
+use Rattle.std.proofs.Common.{◌≡◌, ◌<◌, ◌++◌, true, false, List, [], ◌∷◌, length, map, is_some, Option, Some, None, sym, ◌∙◌, inl, inr, arith}
 use Rattle.std.specs.Prelude.{All, Contains}
 use Rattle.std.specs.List.{filter}
 use Rattle.std.proofs.lemmas.Bool.{cases_Bool, false≢true, ltb-false, ltb-true}
@@ -11,10 +11,9 @@ use Rattle.cn_base.specs.declared.route.Choice.{Choice}
 use Rattle.cn_lists.proofs.Finding.{None-from_is_some}
 use Rattle.cn_net.specs.Network.{Network, IsDevice}
 use Rattle.cn_record.specs.Places.{AddsDevices, HasRowDevices, IsInside, is_at}
-use Rattle.cn_record.specs.Rounds.{AreAll, AreHolders, IsConverged, reset}
+use Rattle.cn_record.specs.Rounds.{AreAll, IsConverged, reset}
 use Rattle.cn_record.specs.Rows.{row_for}
 use Rattle.cn_record.specs.Steps.{AgreesAt, CoversApart, IsLeastApart, TellsApart, is_below}
-use Rattle.cn_record.specs.Tables.{held_of}
 use Rattle.cn_record.specs.declared.places.PrefixDevice.{PrefixDevice}
 use Rattle.cn_record.specs.declared.saved.Row.{Row}
 use Rattle.cn_record.proofs.Inside.{All-reset}

@@ -1,7 +1,7 @@
 -- Where a device can't use anything of what another one holds, and so decides as before.
-use Rattle.std.proofs.Common.{◌≡◌, ◌||◌, ◌==◌, ◌++◌, Bool, true, false, cond, List, [], ◌∷◌, length, is_some, Option, Some, None, inl, inr, refl, sym, ap, subst, ◌∙◌, arith}
+use Rattle.std.proofs.Common.{◌≡◌, ◌||◌, ◌==◌, ◌++◌, true, false, List, [], ◌∷◌, length, is_some, Option, Some, None, inl, inr, refl, sym, ap, subst, ◌∙◌, arith}
 use Rattle.std.specs.Prelude.{All}
-use Rattle.std.specs.List.{fold, list_any}
+use Rattle.std.specs.List.{fold}
 use Rattle.std.proofs.lemmas.Bool.{cases_Bool, cases_eq, cond-false, false≢true}
 use Rattle.std.proofs.lemmas.Option.{none-some}
 use Rattle.cn_base.specs.Cidr.{Cidr}
@@ -21,7 +21,7 @@ use Rattle.cn_net.proofs.Restricted.{up_linked}
 use Rattle.cn_net.proofs.Rounds.{decided_best}
 use Rattle.cn_record.specs.Rounds.{begins_with, is_deaf}
 use Rattle.cn_record.specs.Tables.{decided, candidate_from, held_of, turn}
-use Rattle.cn_record.proofs.Converging.{empty_at, turn_elsewhere, turn_here}
+use Rattle.cn_record.proofs.Converging.{empty_at, turn_elsewhere}
 
 -- ---- what can't be used
 

@@ -1,6 +1,6 @@
 -- How prefixes are gathered with the devices that originate them or have a row for them.
-use Rattle.std.proofs.Common.{◌≡◌, ℕ, ◌+◌, ◌<◌, ◌++◌, ◌&&◌, true, List, [], length, map, take, is_some, find, Option, Some, None, Equal, refl, sym, ap, subst, ◌∙◌, inl, inr, arith}
-use Rattle.std.specs.Prelude.{Contains, IsSome, option_map}
+use Rattle.std.proofs.Common.{◌≡◌, ℕ, ◌+◌, ◌<◌, ◌++◌, true, List, length, map, is_some, find, Option, Some, None, refl, sym, ap, subst, ◌∙◌, arith}
+use Rattle.std.specs.Prelude.{Contains, IsSome}
 use Rattle.std.specs.List.{filter}
 use Rattle.std.specs.List.Sorted.{IsPermutation}
 use Rattle.std.specs.Option.{option_and_then}
@@ -9,16 +9,14 @@ use Rattle.std.proofs.lemmas.Bool.{and_parts, false≢true}
 use Rattle.std.proofs.lemmas.List.Elements.{Contains-append_left, Contains-append_right}
 use Rattle.std.proofs.lemmas.List.Sorted.{Contains-permutation}
 use Rattle.cn_base.specs.Cidr.{Cidr, same_prefix}
-use Rattle.cn_base.specs.Table.{prefix_cmp}
 use Rattle.cn_base.specs.declared.ids.DeviceId.{DeviceId}
-use Rattle.cn_base.specs.declared.ids.Origin.{Origin}
 use Rattle.cn_lists.proofs.Finding.{Contains-filter, Contains-from_is_some_find, Contains-map, is_some-option_map}
-use Rattle.cn_net.specs.Network.{Network, IsDevice, device_of, own_of, own_origin}
+use Rattle.cn_net.specs.Network.{Network, device_of, own_of, own_origin}
 use Rattle.cn_net.specs.declared.device.Device.{Device}
 use Rattle.cn_net.specs.declared.device.Own.{Own}
 use Rattle.cn_net.proofs.Members.{same_number}
 use Rattle.cn_record.specs.Places.{AddsOwn, HasOriginators, HasRowDevices, at_device, is_at, place_of}
-use Rattle.cn_record.specs.Rows.{is_row, row_for}
+use Rattle.cn_record.specs.Rows.{is_row}
 use Rattle.cn_record.specs.declared.places.PrefixDevice.{PrefixDevice}
 use Rattle.cn_record.specs.declared.saved.Row.{Row}
 use Rattle.cn_record.proofs.Gathering.{same_is}

@@ -7,7 +7,6 @@ use Rattle.std.specs.Ordering.{is_eq}
 use Rattle.cn_base.specs.Cidr.{Cidr}
 use Rattle.cn_base.specs.Table.{prefix_cmp}
 use Rattle.cn_base.specs.declared.ids.DeviceId.{DeviceId}
-use Rattle.cn_base.specs.declared.route.Choice.{Choice}
 use Rattle.cn_net.specs.Network.{Network, IsDevice, own_origin, same_device}
 use Rattle.cn_record.specs.Rows.{row_for}
 use Rattle.cn_record.specs.declared.places.Places.{Places}

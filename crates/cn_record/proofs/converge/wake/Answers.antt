@@ -1,4 +1,4 @@
-use Rattle.std.proofs.Common.{◌≡◌, ℕ, ◌↔◌, ◌+◌, ◌++◌, ◌<◌, ◌∷◌, ◌∙◌, [], true, List, Vec, Bool, Global, ap, arith, get_or, length, map, not, ◌&&◌, refl, subst, sym, take}
+use Rattle.std.proofs.Common.{◌≡◌, ℕ, ◌↔◌, ◌+◌, ◌++◌, ◌<◌, ◌∷◌, ◌∙◌, [], true, List, Vec, Global, ap, arith, get_or, length, map, not, ◌&&◌, refl, subst, sym, take}
 use Rattle.std.specs.Prelude.{Contains}
 use Rattle.std.specs.List.{Any}
 use Rattle.std.proofs.lemmas.Bool.{and_parts, false≢true}

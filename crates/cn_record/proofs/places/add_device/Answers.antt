@@ -2,7 +2,7 @@ use Rattle.std.proofs.Common.{◌≡◌, ◌++◌, ◌∙◌, ap, map}
 use Rattle.std.proofs.lemmas.Result.{on_ok_weaker}
 use Rattle.cn_net.specs.declared.device.Own.{Own}
 use Rattle.cn_record.specs.Places.{at_device}
-use Rattle.cn_record.proofs.Originating.{no_places, own_places}
+use Rattle.cn_record.proofs.Originating.{own_places}
 use Rattle.cn_record.proofs.places.add_device.Goals as goal
 
 pub returns-in-Some : goal.returns-in-Some

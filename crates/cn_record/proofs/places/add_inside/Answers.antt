@@ -1,5 +1,5 @@
 use Rattle.std.proofs.Common.{◌≡◌, ◌+◌, ◌++◌, ◌∷◌, ◌∙◌, [], Some, Vec, Global, ap, arith, map, subst, sym, take}
-use Rattle.std.specs.Prelude.{Contains, List}
+use Rattle.std.specs.Prelude.{Contains}
 use Rattle.std.specs.Option.{option_eq}
 use Rattle.std.proofs.lemmas.Bool.{false≢true}
 use Rattle.std.proofs.lemmas.List.{map_more, take_all}

@@ -1,4 +1,4 @@
-use Rattle.std.proofs.Common.{◌≡◌, ◌+◌, ◌∙◌, Some, get_or, refl, subst, sym, take}
+use Rattle.std.proofs.Common.{◌∙◌, get_or, subst, sym, take}
 use Rattle.std.proofs.lemmas.Bool.{false≢true}
 use Rattle.std.proofs.lemmas.List.{take_more}
 use Rattle.cn_base.specs.declared.ids.DeviceId.{DeviceId}
