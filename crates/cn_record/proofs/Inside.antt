@@ -43,15 +43,6 @@ adds_pushed y old = record {
   only = λ x h. Contains-push_cases old y x h;
 }
 
--- a device that stands in the list isn't added again
-pub adds_there : (y : DeviceId) (old : List DeviceId) → Contains old y
-    → AddsDevices (λ x. y ≡ x) (λ x. y ≡ x) old old
-adds_there y old there = record {
-  kept = λ x h. h;
-  added = λ x is. subst (Contains old) is there;
-  only = λ x h. inl h;
-}
-
 module _ (Is In : DeviceId → Type 0) where
   pub adds_none : (old : List DeviceId) → AddsDevices (λ x. Contains [] x × Is x) In old old
   adds_none old = record {
@@ -140,21 +131,3 @@ pub unmarked_all : (marks : List Bool) (ds : List DeviceId) → AreMarked marks 
     → AreAll false (reset false ds marks)
 unmarked_all marks ds are =
     All-reset false ds marks (λ d lt. marked_or (get_or marks d.0 false) (Contains ds d) (are d lt))
-
--- where nothing is marked
-pub unmarked_none : (marks : List Bool) → AreAll false marks → AreMarked marks []
-unmarked_none marks none d lt t = absurd (false≢true (sym (none d.0 false lt) ∙ t))
-
--- a device is put at the end and marked
-pub marked_pushed : (marks : List Bool) (ds : List DeviceId) (d : DeviceId) → AreMarked marks ds
-    → AreMarked (set marks d.0 true) (ds ++ d ∷ [])
-marked_pushed marks ds d are e lt t =
-    let size = length-set marks d.0 true in
-    elim (cases_eq e.0 d.0) [
-      | inl q ↦
-          let is : d ≡ e = λ j. record { 0 = sym q j } in
-          subst (Contains (ds ++ d ∷ [])) is (Contains-push ds d)
-      | inr other ↦
-          Contains-append_left ds (d ∷ []) e
-          (are e (omega arith) (sym (get_or-set_other marks d.0 e.0 true false other) ∙ t))
-    ]

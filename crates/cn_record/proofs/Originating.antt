@@ -1,11 +1,11 @@
 -- How prefixes are gathered with the devices that originate them or have a row for them.
-use Rattle.std.proofs.Common.{◌≡◌, ℕ, ◌+◌, ◌<◌, ◌++◌, true, List, length, map, is_some, find, Option, Some, None, refl, sym, ap, subst, ◌∙◌, arith}
+use Rattle.std.proofs.Common.{◌≡◌, ℕ, ◌+◌, ◌<◌, ◌++◌, true, List, length, map, is_some, find, Some, refl, sym, ap, subst, ◌∙◌, arith}
 use Rattle.std.specs.Prelude.{Contains, IsSome}
 use Rattle.std.specs.List.{filter}
 use Rattle.std.specs.List.Sorted.{IsPermutation}
 use Rattle.std.specs.Option.{option_and_then}
 use Rattle.std.specs.Ordering.{is_eq}
-use Rattle.std.proofs.lemmas.Bool.{and_parts, false≢true}
+use Rattle.std.proofs.lemmas.Bool.{and_parts}
 use Rattle.std.proofs.lemmas.List.Elements.{Contains-append_left, Contains-append_right}
 use Rattle.std.proofs.lemmas.List.Sorted.{Contains-permutation}
 use Rattle.cn_base.specs.Cidr.{Cidr, same_prefix}
@@ -45,22 +45,11 @@ module _ (net : Network) (d : DeviceId) where
             there.1 (ap (at_device d) (same_is there.0.prefix p there.2)));
       })
 
-  pub no_places : (old : List PrefixDevice) → None ≡ device_of net d → AddsOwn net d old old
-  no_places old is = record {
-    kept = λ x h. h;
-    added = λ p some.
-        absurd (false≢true
-        (ap (λ (o : Option Device). is_some (option_and_then (λ x. own_of x.body p) o)) is ∙ some));
-  }
-
 -- the devices below n have their prefixes in the list
 abbrev pub HasOriginatorsBelow : Network → ℕ → List PrefixDevice → Type 0
 HasOriginatorsBelow net n list =
     (d : DeviceId) → d.0 < n → (p : Cidr) → IsSome (own_origin net d p)
     → Contains list (at_device d p)
-
-pub no_originators : (net : Network) (list : List PrefixDevice) → HasOriginatorsBelow net 0 list
-no_originators net list d lt = absurd (omega arith)
 
 pub originators_more : (net : Network) (n : ℕ) (old new : List PrefixDevice)
     → HasOriginatorsBelow net n old → AddsOwn net (record { 0 = n }) old new

@@ -71,22 +71,6 @@ pub record HaveDecided (net : Network) (label : DeviceId → Option DeviceId) (i
   pub holds : AreHolders net p now holders
   pub held_inside : All (IsInside net label i) holders
 
-pub none_decided : (net : Network) (label : DeviceId → Option DeviceId) (i : DeviceId) (p : Cidr)
-    (table : List (Option Choice)) (waiting holders : List DeviceId)
-    → RestsBut net label i p table waiting → AreHolders net p table holders
-    → All (IsInside net label i) holders
-    → HaveDecided net label i p table table waiting 0 [] holders
-none_decided net label i p table waiting holders rests are inside = record {
-  after = refl;
-  inside = λ k e lt. absurd (omega arith);
-  rests = λ d is l. elim (rests d is l) [
-    | inl h ↦ inl (record { place = h.0; from = omega arith; within = h.1; is = h.2 })
-    | inr q ↦ inr (inr q)
-  ];
-  holds = are;
-  held_inside = inside;
-}
-
 -- all are devices of the island where only such devices are added
 pub inside_more : (net : Network) (label : DeviceId → Option DeviceId) (i : DeviceId)
     (Is : DeviceId → Type 0) (old new : List DeviceId)
@@ -237,17 +221,6 @@ module _ (net : Network) (label : DeviceId → Option DeviceId) (i : DeviceId) (
           held_inside = subst (All (IsInside net label i)) (sym more_held)
               (All-push (IsInside net label i) holders d so.held_inside in_island);
         }
-
--- the end of a round
-pub all_decided : (net : Network) (label : DeviceId → Option DeviceId) (i : DeviceId) (p : Cidr)
-    (first now : List (Option Choice)) (waiting : List DeviceId) (k : ℕ)
-    (next holders : List DeviceId) → length waiting ≤ k
-    → HaveDecided net label i p first now waiting k next holders → RestsBut net label i p now next
-all_decided net label i p first now waiting k next holders end so d is l =
-    elim (so.rests d is l) [
-      | inl w ↦ absurd (let from = w.from in let lt = w.within in omega arith)
-      | inr r ↦ r
-    ]
 
 -- ---- round after round
 
