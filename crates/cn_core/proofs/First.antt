@@ -50,7 +50,8 @@ enabled_at s d (Some p) e apart none l is =
     subst (λ e. IsTrue (can s e)) same (least_there (rib s d).dirty p l)
 enabled_at s d None e apart none l is =
     elim (find (owes_from s d) s.sessions) as
-    (λ o. find (owes_from s d) s.sessions ≡ o → option_map send_over o ≡ Some e → IsTrue (can s e)) [
+    (λ o. find (owes_from s d) s.sessions ≡ o → option_map send_over o ≡ Some e
+    → IsTrue (can s e)) [
       | None ↦ λ f is. cc
       | Some x ↦
           λ f is.

@@ -36,7 +36,8 @@ one_selected net (Emulate emulated) x y is is' = is ∙ sym is'
 -- a set within the limits passes none
 within_passes_none : (net : Network) (set : List DeviceId) (w : What) (count : ℕ)
     → IsWithinLimits net set → PassesLimit net set w count → ⊥
-within_passes_none net set what.Emulated count limits (is, above) = omega (arith, limits.few_emulated)
+within_passes_none net set what.Emulated count limits (is, above) =
+    omega (arith, limits.few_emulated)
 within_passes_none net set what.Rows count limits (few, is, above) = omega (arith, limits.few_rows)
 within_passes_none net set what.Devices count limits h = h
 within_passes_none net set what.Links count limits h = h

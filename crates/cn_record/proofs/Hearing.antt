@@ -101,7 +101,7 @@ decided_apart net p table d b same =
       | inl q ↦
           let is : d ≡ a = λ i. record { 0 = sym q i } in
           subst (λ z. candidate_from net p (turn net p table d) b z
-              ≡ candidate_from net p table b z) is same
+          ≡ candidate_from net p table b z) is same
       | inr other ↦
           ap (λ (o : Option Choice). usable net b a (offer_of net a b p o))
           (turn_elsewhere net p table d a other)

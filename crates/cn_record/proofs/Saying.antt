@@ -60,8 +60,12 @@ module _ (net : Network) (label : DeviceId → Option DeviceId) (d : DeviceId) (
         is_device = ltb-true d.0 (length net.devices) parts.0;
         island = one.0;
         in_island = one.1;
-        of_island = record { device = x; in_island = one.2; originates =
-            (subst (IsDevice net) any.3 (only_devices net any.0 x any.2), both.1) };
+        of_island = record {
+          device = x;
+          in_island = one.2;
+          originates =
+              (subst (IsDevice net) any.3 (only_devices net any.0 x any.2), both.1);
+        };
       }
 
   pub originated_back : (i : DeviceId) → IsDevice net d → label d ≡ Some i
@@ -72,10 +76,15 @@ module _ (net : Network) (label : DeviceId → Option DeviceId) (d : DeviceId) (
       let x = o.device in
       let at = all_devices net x o.originates.0 in
       and_from (nat_lt d.0 (length net.devices)) (list_any test (device_ids net))
-          (lt-ltb d.0 (length net.devices) is)
-      (list_any-from_Any test (device_ids net)
-          (at.0, x, at.1, at.2, and_from (is_one_island label d x) (is_some (own_origin net x p))
-          (of_one_island label d x i e o.in_island) o.originates.1))
+      (lt-ltb d.0 (length net.devices) is)
+      (list_any-from_Any test (device_ids net) (
+        at.0,
+        x,
+        at.1,
+        at.2,
+        and_from (is_one_island label d x) (is_some (own_origin net x p))
+            (of_one_island label d x i e o.in_island) o.originates.1,
+      ))
 
   pub not_device : length net.devices ≤ d.0 → false ≡ island_originates net label d p
   unfolding island_originates
@@ -94,20 +103,20 @@ module _ (net : Network) (label : DeviceId → Option DeviceId) (d : DeviceId) (
       → b ≡ island_originates net label d p
   originated_by list i None b own are is e none tests =
       tests ∙ sym (false_from_ne_true (island_originates net label d p)
-          (λ t. let o = originated_from t in none o.island (are.all o.island p o.of_island)))
+      (λ t. let o = originated_from t in none o.island (are.all o.island p o.of_island)))
   originated_by list i (Some j) b own are is e there tests =
       let of_j : IsOfIsland net label j p =
-          All-contains (λ x. IsOfIsland net label x.island x.prefix) list (of_island j p)
-          are.each there in
+      All-contains (λ x. IsOfIsland net label x.island x.prefix) list (of_island j p)
+      are.each there in
       tests
       ∙ same_from_decides {P = j ≡ i} (same_device j i) (island_originates net label d p)
-          (same_number j i, λ q. ap (same_device j) (sym q) ∙ itself j) (
+      (same_number j i, λ q. ap (same_device j) (sym q) ∙ itself j) (
         λ t.
             let o = originated_from t in
             let at_i : o.island ≡ i = same_Some o.island i (sym o.in_island ∙ sym e) in
             let there : label o.of_island.device ≡ Some j =
-                own j of_j.device o.of_island.device p of_j.in_island of_j.originates
-                o.of_island.originates in
+            own j of_j.device o.of_island.device p of_j.in_island of_j.originates
+            o.of_island.originates in
             same_Some j i (sym there ∙ o.of_island.in_island ∙ ap Some at_i),
         λ q. originated_back i is (sym e) (subst (λ z. IsOfIsland net label z p) q of_j),
       )

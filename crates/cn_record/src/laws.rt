@@ -30,14 +30,14 @@ pub fn recorded_boundary()
     ensures outside { (r : RecordedOpening) (state : Assignment)
         → IsRecorded r → IsStable r.opening.net state
         → OutsideAsRecorded r.opening.net (label_of r.opening.labels)
-            (said_by r.opening r.rows) state }
+        (said_by r.opening r.rows) state }
     ensures foreign { (r : RecordedOpening) (state : Assignment)
         → IsRecorded r → IsStable r.opening.net state
         → NoForeignOffer r.opening.net (outside_of r.opening.emulated)
-            (label_of r.opening.labels) state }
+        (label_of r.opening.labels) state }
     ensures inside { (r : RecordedOpening) (held state : Assignment)
         → IsRecorded r → IsStable r.opening.net state
         → IsStableInside r.opening.net (outside_of r.opening.emulated)
-            (said_by r.opening r.rows) held
+        (said_by r.opening r.rows) held
         → AgreeInside r.opening.net (outside_of r.opening.emulated) held state }
 {}

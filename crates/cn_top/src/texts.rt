@@ -19,7 +19,9 @@ use std::alloc::{AllocError, Global};
 pub fn usage_line() -> &'static [u8]
     ensures { result.now ≡ usage_line }
 {
-    b"usage: crystal plan FILE, serial FILE SCRIPT TRACE, replay FILE SCRIPT TRACE, save FILE, make PODS LEAVES RACKS SPINES SHIFT, sample PODS LEAVES RACKS SPINES SHIFT, live FILE SCRIPT TRACE WORKERS WATCHERS\n"
+    b"usage: crystal plan FILE, serial FILE SCRIPT TRACE, replay FILE SCRIPT TRACE, save FILE, \
+    make PODS LEAVES RACKS SPINES SHIFT, sample PODS LEAVES RACKS SPINES SHIFT, \
+    live FILE SCRIPT TRACE WORKERS WATCHERS\n"
 }
 
 /// The line of what isn't built yet.

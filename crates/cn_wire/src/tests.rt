@@ -262,7 +262,8 @@ fn unused_bits(rt: HostRuntime) -> Result<(), Fail> {
     Ok(())
 }
 
-// A prefix of each length, all of whose bits are 1: how long its message is, and what is read of it.
+// A prefix of each length, all of whose bits are 1: how long its message is, and what is read of
+// it.
 #[test]
 fn each_length(rt: HostRuntime) -> Result<(), Fail> {
     let alloc = rt.alloc();

@@ -19,20 +19,20 @@ returns-clause-outside c =
     λ r state is stable.
     let o = r.opening in
     held_as_recorded o.net (outside_of o.emulated) (label_of o.labels)
-        (said_by o r.rows) state (distinct_ids o.net is.opening.valid) is.opening.labelling
-        is.opening.certified stable is.sound
+    (said_by o r.rows) state (distinct_ids o.net is.opening.valid) is.opening.labelling
+    is.opening.certified stable is.sound
 
 pub returns-clause-foreign : goal.returns-clause-foreign
 returns-clause-foreign c =
     λ r state is stable.
     let o = r.opening in
     refused_by_emulated o.net (outside_of o.emulated)
-        (label_of o.labels) is.opening.labelling is.opening.certified state stable
+    (label_of o.labels) is.opening.labelling is.opening.certified state stable
 
 pub returns-clause-inside : goal.returns-clause-inside
 returns-clause-inside c =
     λ r held state is stable quiet.
     let o = r.opening in
     quiet_agrees o.net (outside_of o.emulated) (label_of o.labels)
-        (said_by o r.rows) held state (bounded o state is.opening stable) is.sound
-        (says_own o.net (label_of o.labels) r.rows) quiet
+    (said_by o r.rows) held state (bounded o state is.opening stable) is.sound
+    (says_own o.net (label_of o.labels) r.rows) quiet

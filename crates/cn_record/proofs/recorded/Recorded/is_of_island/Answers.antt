@@ -10,32 +10,40 @@ pub returns-then-device-count : goal.returns-then-device-count
 returns-then-device-count c =
     let o = c.self.inside.certified in
     let few : length o.net.devices ≤ c.args.device.0 =
-        omega (arith, c.if-device-count.true, c.count.ensures,
-        ap (λ n. length n.devices) c.net.ensures) in
+    omega (
+      arith,
+      c.if-device-count.true,
+      c.count.ensures,
+      ap (λ n. length n.devices) c.net.ensures,
+    ) in
     not_device o.net (label_of o.labels) c.args.device c.args.prefix.now few
-        ∙ ap (λ (r : RecordedOpening). island_originates r.opening.net (label_of r.opening.labels)
-        c.args.device c.args.prefix.now) c.self.view_is
+    ∙ ap (λ (r : RecordedOpening). island_originates r.opening.net (label_of r.opening.labels)
+    c.args.device c.args.prefix.now) c.self.view_is
 
 pub returns-in-Some : goal.returns-in-Some
 returns-in-Some c =
     let o = c.self.inside.certified in
     let label = label_of o.labels in
     let is : IsDevice o.net c.args.device =
-        omega (arith, c.if-device-count.false, c.count.ensures,
-        ap (λ n. length n.devices) c.net.ensures) in
+    omega (
+      arith,
+      c.if-device-count.false,
+      c.count.ensures,
+      ap (λ n. length n.devices) c.net.ensures,
+    ) in
     let labelled = c.in-Some.ensures ∙ ap (λ l. label_of l c.args.device) c.labels.ensures in
     let found = rw c.deref.ensures.value at c.island_of.ensures in
     originated_by o.net label c.args.device c.args.prefix.now c.self.inside.prefixes.items
-        c.in-Some.island c.island_of.result c.eq.result
-        (λ i. (c.self.invariant.recorded.opening.certified.island i).origins)
-        c.self.invariant.prefixes is labelled found c.eq.ensures
+    c.in-Some.island c.island_of.result c.eq.result
+    (λ i. (c.self.invariant.recorded.opening.certified.island i).origins)
+    c.self.invariant.prefixes is labelled found c.eq.ensures
     ∙ ap (λ (r : RecordedOpening). island_originates r.opening.net (label_of r.opening.labels)
-        c.args.device c.args.prefix.now) c.self.view_is
+    c.args.device c.args.prefix.now) c.self.view_is
 
 pub returns-in-None : goal.returns-in-None
 returns-in-None c =
     let o = c.self.inside.certified in
     not_labelled o.net (label_of o.labels) c.args.device c.args.prefix.now (c.in-None.ensures
-        ∙ ap (λ l. label_of l c.args.device) c.labels.ensures)
+    ∙ ap (λ l. label_of l c.args.device) c.labels.ensures)
     ∙ ap (λ (r : RecordedOpening). island_originates r.opening.net (label_of r.opening.labels)
-        c.args.device c.args.prefix.now) c.self.view_is
+    c.args.device c.args.prefix.now) c.self.view_is
