@@ -43,7 +43,8 @@ holds_behind (x ∷ more) path n h =
       | false ↦ holds_behind more path n h
     ]
 
-holds_first : (path : List Asn) (n : Asn) → begins_with path n ≡ true → holds_asn path n ≡ true
+-- the number with which a path begins stands in it
+pub holds_first : (path : List Asn) (n : Asn) → begins_with path n ≡ true → holds_asn path n ≡ true
 holds_first [] n h = absurd (false≢true h)
 holds_first (x ∷ path) n h = ap (λ b. b || holds_asn path n) h
 

@@ -14,7 +14,7 @@ ghost use Rattle.cn_record.specs.Places.{AddsDevices, IsInside};
 ghost use Rattle.cn_record.specs.Rounds.{AreAll, AreHolders, AreMarked, HasIslandOriginators, IsConverged, RestsBut, TellsChange, Wakes, is_deaf, is_woken, reset};
 ghost use Rattle.cn_record.specs.Tables.{round_of};
 
-use crate::decision::decided;
+use crate::decision::{begins_with, decided};
 use crate::places::{PrefixDevice, add_inside};
 use cn_base::{AsPath, Choice, DeviceId, Prefix};
 use cn_net::{Labels, Net};
@@ -65,10 +65,7 @@ fn is_deaf(net: &Net, device: DeviceId, held: &Option<Choice>) -> bool
     ensures { result ≡ is_deaf net.now device held.now }
 {
     match held {
-        Some(held) => match held.path.items() {
-            [first, ..] => *first == net.asn(device),
-            [] => false,
-        },
+        Some(held) => begins_with(&held.path, net.asn(device)),
         None => true,
     }
 }

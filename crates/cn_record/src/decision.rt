@@ -11,9 +11,10 @@ ghost use Rattle.std.specs.List.{fold};
 ghost use Rattle.cn_decide.specs.Decide.{better, with_rank};
 ghost use Rattle.cn_net.specs.Candidates.{rank_of, usable};
 ghost use Rattle.cn_net.specs.Network.{IsDevice, peers_of};
+ghost use Rattle.cn_record.specs.Rounds.{begins_with};
 ghost use Rattle.cn_record.specs.Tables.{decided, ranked_candidate, no_offer_outranks};
 
-use cn_base::{AsPath, Choice, DeviceId, Prefix, Rank, Route};
+use cn_base::{AsPath, Asn, Choice, DeviceId, Prefix, Rank, Route};
 use cn_decide::{Ranked, better, rank_with};
 use cn_net::Net;
 use std::alloc::{AllocError, Global};
@@ -67,9 +68,19 @@ fn no_offer_outranks(
     }
 }
 
+/// Holds where the path begins with the number. What is offered of it then holds the number too.
+pub fn begins_with(path: &AsPath, asn: Asn) -> bool
+    ensures { result ≡ begins_with path.now asn }
+{
+    match path.items() {
+        [first, ..] => *first == asn,
+        [] => false,
+    }
+}
+
 // The better of the best so far and of what one more device offers. What that one holds is looked
-// at first: an offer ends with the path that is held, so where that has the device's AS number the
-// offer is refused (RFC 4271, 9.1.2).
+// at first: an offer ends with the path that is held, so where that begins with the device's AS
+// number the offer is refused (RFC 4271, 9.1.2). A number further behind is found in the offer.
 fn better_candidate(
     alloc: Global,
     net: &Net,
@@ -91,7 +102,7 @@ fn better_candidate(
     if no_offer_outranks(net, &best, from, held) {
         return Ok(best);
     }
-    if held.path.contains(net.asn(device)) {
+    if begins_with(&held.path, net.asn(device)) {
         return Ok(best);
     }
     match net.offer_path(alloc, from, device, prefix, &held.path, held.origin)? {

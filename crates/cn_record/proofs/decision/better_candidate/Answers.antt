@@ -1,6 +1,8 @@
 use Rattle.std.proofs.Common.{◌∙◌, ◌<◌, length, arith, ap, sym}
-use Rattle.cn_base.specs.Paths.{holds_asn}
+use Rattle.cn_net.specs.Network.{asn_of}
+use Rattle.cn_record.specs.Rounds.{begins_with}
 use Rattle.cn_record.proofs.Deciding.{better-held_none, better-loop, better-not_offered, better-offered, better-no_offer_outranks}
+use Rattle.cn_record.proofs.Hearing.{holds_first}
 use Rattle.cn_record.proofs.decision.better_candidate.Goals as goal
 use Rattle.cn_record.proofs.decision.better_candidate.Goals.{In-Some}
 
@@ -21,12 +23,14 @@ returns-then-no_offer_outranks c =
     c.index-table-from.is c.in-Some.is
     (sym c.no_offer_outranks.ensures ∙ c.if-no_offer_outranks.true)
 
-pub returns-then-contains : goal.returns-then-contains
-returns-then-contains c =
-    let held = c.contains.ensures ∙ ap (holds_asn c.in-Some.held.path) c.asn.ensures in
+pub returns-then-begins_with : goal.returns-then-begins_with
+returns-then-begins_with c =
+    let begins = sym (c.begins_with.ensures ∙ ap (begins_with c.in-Some.held.path) c.asn.ensures)
+    ∙ c.if-begins_with.true in
     better-loop c.args.net.now c.args.prefix.now c.args.table.now c.args.device c.args.from
-    c.args.best _ c.in-Some.held (within (goal.at.returns-then-contains c).In-Some)
-    c.index-table-from.is c.in-Some.is (sym held ∙ c.if-contains.true)
+    c.args.best _ c.in-Some.held (within (goal.at.returns-then-begins_with c).In-Some)
+    c.index-table-from.is c.in-Some.is
+    (holds_first c.in-Some.held.path (asn_of c.args.net.now c.args.device) begins)
 
 pub returns-in-Some-2 : goal.returns-in-Some-2
 returns-in-Some-2 c =
