@@ -128,7 +128,10 @@ fn learnt(
     net.valid();
     let mut best = None;
     for neighbour in net.neighbours(device) {
-        best = better_candidate(alloc, net, table, device, prefix, neighbour.device, best)?;
+        // Most neighbours of a hub hold nothing: they aren't called about.
+        if table[neighbour.device.0 as usize].is_some() {
+            best = better_candidate(alloc, net, table, device, prefix, neighbour.device, best)?;
+        }
     }
     Ok(best)
 }
