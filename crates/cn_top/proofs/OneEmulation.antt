@@ -1,5 +1,5 @@
 -- A text stands for at most one network, one choice of its devices and one list of rows.
-use Rattle.std.proofs.Common.{◌≡◌, ℕ, ◌++◌, Bool, true, false, not, List, [], ◌∷◌, map, All, Option, Some, None, option_map, Result, Ok, refl, sym, ap, subst, ◌∙◌}
+use Rattle.std.proofs.Common.{◌≡◌, ℕ, ◌++◌, Bool, true, false, not, List, [], ◌∷◌, map, All, Option, Some, None, option_map, Result, Ok, refl, sym, ap, subst, ◌∙◌, arith}
 use Rattle.std.specs.Prelude.{find}
 use Rattle.std.specs.List.{IsDistinct, flat_map}
 use Rattle.std.specs.Str.{bytes_eq}
