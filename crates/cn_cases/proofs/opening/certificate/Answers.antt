@@ -5,4 +5,4 @@ pub certify-requires-clause-labelling : goal.certify-requires-clause-labelling
 certify-requires-clause-labelling c =
     c.islands_are_a_labelling.ensures c.args.net (outside_of c.in_ok-emulated.emulated)
     (label_of c.in_ok-labels.labels)
-    c.in_ok-labels.ensures
+    c.in_ok-labels.ensures.islands
