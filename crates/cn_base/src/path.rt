@@ -102,7 +102,9 @@ impl AsPath {
     pub fn contains(&self, asn: Asn) -> bool
         ensures { result ≡ holds_asn self.now asn }
     {
-        self.numbers.iter().any(|number| *number == asn)
+        self.numbers
+            .iter()
+            .fold(false, |found, number| found | (*number == asn))
     }
 
     /// An equal path.
