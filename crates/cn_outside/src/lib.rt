@@ -9,17 +9,17 @@
 //! `MemoryShelf` and `MemoryOut` tell exactly what they hold, and their calls can be made to fail
 //! by number; `SureShelf` and `SureOut` are the same without that, so a contract shows which faults
 //! can't come of them. `HostShelf` and `HostOut` are the host's files and standard output, of whose
-//! content nothing is told. Each shelf keeps its failed calls in a `FailedCalls`, whose place is
+//! content nothing is told. Each shelf keeps its failed calls in a `Calls`, whose place is
 //! taken before the call is made, so that noting a failure never wants memory.
 #![tactic(auto)]
 
-mod failed;
+mod calls;
 mod host;
 mod memory;
 mod outside;
 mod sure;
 
-pub use failed::{CallKind, FailedCall, FailedCalls};
+pub use calls::{Call, CallKind, Calls};
 pub use host::{HostOut, HostShelf};
 pub use memory::{MemoryOut, MemoryShelf, Trip};
 pub use outside::{Out, ReadAnswer, Shelf, WriteAnswer};

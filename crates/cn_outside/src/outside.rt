@@ -1,7 +1,7 @@
 //! The two traits, and what their calls answer.
 
-ghost use Rattle.std.specs.Prelude.{◌≡◌, ◌≤◌, List, ℕ, Bool, Option, IsTrue, IfOk, IfErr, OnOk, IsErrOf, length};
-ghost use Rattle.cn_outside.specs.Shelf.{SameAtEach, SameBut, RisesOnlyAt, ReadsHeld, NamesLimit, HasReadCause, HasWriteCause, WritesHeld, PutsBytes};
+ghost use Rattle.std.specs.Prelude.{◌≤◌, IfOk, IfErr, IsOk, IsErrOf, length};
+ghost use Rattle.cn_outside.specs.Shelf.{Files, Printed, IsAnswered, NamesLimit, ReadsHeld, WritesHeld, PutsBytes, RisesOnce, SameAtEach, SameBut, SameReads, SameWrites};
 
 use std::alloc::{AllocError, AllocFailed, Global};
 
@@ -27,67 +27,64 @@ pub enum WriteAnswer {
 
 /// Texts under names, which can be read and written. A name is the octets of a `str`.
 ///
-/// A clause that begins with `IsTrue tells` speaks of shelves that tell what they hold. The clauses
-/// on counts hold of every shelf: no count falls, and a call raises no count but that of its own
-/// kind at its own name.
+/// What a shelf tells of its names is `held`; of a name that is untold no clause says what it
+/// holds. The counts are told of every shelf and every name: a call raises the one count of its
+/// kind, of its name and of how it ended by one, and no other. A call that ran out of memory raises
+/// none. So a scene shows how often each name was read and written, and how often that failed.
 pub trait Shelf {
-    /// Whether shelves of this type tell what their names hold.
-    ghost tells: { Bool };
+    /// What is seen of the shelf.
+    ghost files: { Self → Files };
 
-    /// What a name holds, where the shelf tells it; none where it holds nothing.
-    ghost held: { Self → List ℕ → Option (List ℕ) };
-
-    /// How many reads of a name failed so far.
-    ghost read_faults: { Self → List ℕ → ℕ };
-
-    /// How many writes of a name failed so far.
-    ghost write_faults: { Self → List ℕ → ℕ };
-
-    /// All that the name holds, at most `limit` bytes. It leaves what every name holds. `Failed`
-    /// comes only where the name's count of failed reads rose in this call, and `TooLong`, with the
-    /// limit of this call, only where the name holds more bytes.
+    /// All that the name holds, at most `limit` bytes. It leaves what every name holds. `TooLong`,
+    /// with the limit of this call, comes only where the name holds more bytes.
     fn read(&mut self, alloc: Global, name: &str, limit: usize) -> Result<Vec<u8>, ReadAnswer>
         ensures within { IfOk result (λ bytes. length bytes.items ≤ limit) }
-        ensures content { IsTrue tells → ReadsHeld (held self.old name.now) limit result }
+        ensures content { ReadsHeld ((files self.old).held name.now) limit result }
         ensures limit { IfErr result (NamesLimit limit) }
-        ensures same { SameAtEach (held self.old) (held self.new) }
-        ensures reads { RisesOnlyAt name.now (read_faults self.old) (read_faults self.new) }
-        ensures writes { SameAtEach (write_faults self.old) (write_faults self.new) }
-        ensures cause { HasReadCause (read_faults self.old name.now) (read_faults self.new name.now)
-            result };
+        ensures held { SameAtEach (files self.old).held (files self.new).held }
 
-    /// Puts these bytes under the name, in the place of what it held. `Failed` comes only where the
-    /// name's count of failed writes rose in this call, and nothing is said then of what the name
-    /// holds. After `Memory` every name holds what it held.
+        // Which counts rise.
+        ensures failed { IsErrOf result ReadAnswer.Failed
+            → RisesOnce name.now (files self.old).read_faults (files self.new).read_faults }
+        ensures unfailed { ¬ IsErrOf result ReadAnswer.Failed
+            → SameAtEach (files self.old).read_faults (files self.new).read_faults }
+        ensures answered { IsAnswered result
+            → RisesOnce name.now (files self.old).reads (files self.new).reads }
+        ensures unanswered { ¬ IsAnswered result
+            → SameAtEach (files self.old).reads (files self.new).reads }
+        ensures writes { SameWrites (files self.old) (files self.new) };
+
+    /// Puts these bytes under the name, in the place of what it held. After `Failed` nothing is
+    /// said of what the name holds, and after `Memory` every name holds what it held.
     fn write(&mut self, alloc: Global, name: &str, bytes: &[u8]) -> Result<(), WriteAnswer>
-        ensures content { IsTrue tells
-            → WritesHeld bytes.now (held self.old name.now) (held self.new name.now) result }
-        ensures others { SameBut name.now (held self.old) (held self.new) }
-        ensures reads { SameAtEach (read_faults self.old) (read_faults self.new) }
-        ensures writes { RisesOnlyAt name.now (write_faults self.old) (write_faults self.new) }
-        ensures cause { HasWriteCause (write_faults self.old name.now)
-            (write_faults self.new name.now) result };
+        ensures content { WritesHeld bytes.now ((files self.old).held name.now)
+            ((files self.new).held name.now) result }
+        ensures others { SameBut name.now (files self.old).held (files self.new).held }
+
+        // Which counts rise.
+        ensures failed { IsErrOf result WriteAnswer.Failed
+            → RisesOnce name.now (files self.old).write_faults (files self.new).write_faults }
+        ensures unfailed { ¬ IsErrOf result WriteAnswer.Failed
+            → SameAtEach (files self.old).write_faults (files self.new).write_faults }
+        ensures done { IsOk result
+            → RisesOnce name.now (files self.old).writes (files self.new).writes }
+        ensures undone { ¬ IsOk result
+            → SameAtEach (files self.old).writes (files self.new).writes }
+        ensures reads { SameReads (files self.old) (files self.new) };
 }
 
 /// What takes the bytes that a program prints.
+///
+/// An out tells the bytes that it has taken, or tells none of them. Every out counts the puts that
+/// were done and those that failed.
 pub trait Out {
-    /// Whether an out of this type tells what it has taken.
-    ghost tells: { Bool };
+    /// What is seen of the out.
+    ghost printed: { Self → Printed };
 
-    /// The bytes taken so far, where the out tells them.
-    ghost taken: { Self → List ℕ };
-
-    /// How many puts failed so far.
-    ghost faults: { Self → ℕ };
-
-    /// Takes these bytes, after those that it took before. After `Failed`, which comes only where
-    /// the count rose in this call, it has taken some of them, from their front; after `Memory`
-    /// none.
+    /// Takes these bytes, after those that it took before. After `Failed` it has taken some of
+    /// them, from their front; after `Memory` none.
     fn put(&mut self, alloc: Global, bytes: &[u8]) -> Result<(), WriteAnswer>
-        ensures bytes { IsTrue tells
-            → PutsBytes bytes.now (taken self.old) (taken self.new) result }
-        ensures later { faults self.old ≤ faults self.new }
-        ensures cause { HasWriteCause (faults self.old) (faults self.new) result };
+        ensures { PutsBytes bytes.now (printed self.old) (printed self.new) result };
 }
 
 impl From<AllocError> for ReadAnswer {

@@ -1,0 +1,44 @@
+-- How often the calls of a shelf were made, by kind and name.
+use Rattle.std.specs.Prelude.{ℕ, ◌<◌, List, length, Bool, true, false, ◌&&◌}
+use Rattle.std.specs.List.{count_by}
+use Rattle.std.specs.Str.{bytes_eq}
+use Rattle.std.specs.String.{string_bytes}
+use Rattle.std.specs.Vec.{vec_len, vec_capacity}
+use Rattle.cn_outside.specs.Shelf.{Files, Held}
+use Rattle.cn_outside.specs.declared.calls.CallKind.{CallKind}
+use Rattle.cn_outside.specs.declared.calls.CallKind.TheVariants.{Read, FailedRead, Write, FailedWrite}
+use Rattle.cn_outside.specs.declared.calls.Call.{Call}
+use Rattle.cn_outside.specs.declared.calls.Calls.{Calls}
+
+abbrev pub same_kind : CallKind → CallKind → Bool
+same_kind Read Read = true
+same_kind FailedRead FailedRead = true
+same_kind Write Write = true
+same_kind FailedWrite FailedWrite = true
+same_kind _ _ = false
+
+-- a call of that kind on that name
+abbrev pub is_call : CallKind → List ℕ → Call → Bool
+is_call kind name call = same_kind kind call.kind && bytes_eq name (string_bytes call.name)
+
+-- how many calls of that kind were made on that name
+abbrev pub calls_of : CallKind → Calls → List ℕ → ℕ
+calls_of kind calls name = count_by (is_call kind name) calls.made.items
+
+-- how many calls were made
+abbrev pub call_count : Calls → ℕ
+call_count calls = length calls.made.items
+
+-- what is seen of a shelf that tells this of its names, and whose calls are these
+abbrev pub counted : (List ℕ → Held) → Calls → Files
+counted held calls = record {
+  held = held;
+  reads = calls_of Read calls;
+  read_faults = calls_of FailedRead calls;
+  writes = calls_of Write calls;
+  write_faults = calls_of FailedWrite calls;
+}
+
+-- there is room for one more call
+abbrev pub HasRoom : Calls → Type 0
+HasRoom calls = vec_len calls.made < vec_capacity calls.made
