@@ -1,19 +1,21 @@
 -- One more call counts at its own kind and name alone.
-use Rattle.std.proofs.Common.{◌≡◌, ◌≢◌, ℕ, ◌+◌, Bool, true, false, cond, List, [], ◌∷◌, ◌++◌, length, Result, Ok, Err, refl, sym, subst, ◌∙◌, arith}
+use Rattle.std.proofs.Common.{◌≡◌, ◌≢◌, ℕ, ◌+◌, Bool, true, false, cond, List, [], ◌∷◌, ◌++◌, length, Result, Ok, Err, refl, sym, subst, ap, ◌∙◌, arith}
 use Rattle.std.specs.List.{count_by}
 use Rattle.std.specs.Str.{bytes_eq}
 use Rattle.std.specs.String.{string_bytes}
 use Rattle.std.specs.Global.{Vec}
 use Rattle.std.proofs.lemmas.Bool.{false_from_ne_true}
 use Rattle.std.proofs.lemmas.Slice.Eq.{bytes_eq-Decides}
+use Rattle.std.proofs.lemmas.List.{length_push}
 use Rattle.std.proofs.lemmas.List.Sums.{sum_by_push}
 use Rattle.cn_outside.specs.declared.calls.CallKind.{CallKind}
 use Rattle.cn_outside.specs.declared.calls.CallKind.TheVariants.{Read, FailedRead, Write, FailedWrite}
 use Rattle.cn_outside.specs.declared.calls.Call.{Call}
-use Rattle.cn_outside.specs.Calls.{is_call, same_kind}
+use Rattle.cn_outside.specs.declared.calls.Calls.{Calls}
+use Rattle.cn_outside.specs.Calls.{call_count, calls_of, is_call, same_kind, CountsRead}
 use Rattle.cn_outside.specs.declared.outside.ReadAnswer.{ReadAnswer}
 use Rattle.cn_outside.specs.declared.outside.ReadAnswer.TheVariants as reads
-use Rattle.cn_outside.specs.Shelf.{ReadsHeld, RisesOnce, SameAtEach, untold}
+use Rattle.cn_outside.specs.Shelf.{IsAnswered, ReadsHeld, RisesOnce, SameAtEach, untold}
 
 one_more : {X : Type 0} (p : X → Bool) (xs : List X) (x : X)
     → count_by p (xs ++ x ∷ []) ≡ count_by p xs + cond (p x) 1 0
@@ -71,9 +73,12 @@ pub noted : (call : Call) (before after : List Call) → after ≡ before ++ cal
 noted call before after e =
     let P : List Call → Type 0 = λ xs. Noted call.kind (string_bytes call.name) before xs in
     subst P (sym e) (record {
-      own = record { rises = counts_own call before; others = λ n ne. counts_others call before n ne };
+      own = record {
+        rises = counts_own call before;
+        others = λ n ne. counts_others call before n ne;
+      };
       other_kinds = λ other ne n. counts_kind other call before n ne;
-      count = length-snoc;
+      count = length_push before call;
     })
 
 -- the count of a call whose place was taken first
@@ -89,6 +94,76 @@ rises_from f g h copy name same rises e =
 -- a count that was the same at two steps
 pub same_from : (f g h : List ℕ → ℕ) → SameAtEach f g → SameAtEach g h → SameAtEach f h
 same_from f g h first second n = second n ∙ first n
+
+-- what one more call counts, in lists of calls
+pub record NotedIn (kind : CallKind) (name : List ℕ) (before now : Calls) : Type 0 where
+  pub own : RisesOnce name (calls_of kind before) (calls_of kind now)
+  pub other_kinds : (other : CallKind) → same_kind other kind ≡ false
+      → SameAtEach (calls_of other before) (calls_of other now)
+  pub count : call_count now ≡ call_count before + 1
+
+-- an answered read is noted as one
+pub counts_answered : (name : List ℕ) (before now : Calls) (answer : Result (Vec ℕ) ReadAnswer)
+    → IsAnswered answer → NotedIn Read name before now → CountsRead name before now answer
+counts_answered name before now (Ok bytes) a h = record {
+  failed = λ f. cc;
+  unfailed = λ _. h.other_kinds FailedRead refl;
+  answered = λ _. h.own;
+  unanswered = λ no. absurd (no a);
+  writes = h.other_kinds Write refl;
+  write_faults = h.other_kinds FailedWrite refl;
+  made = λ _. h.count;
+  unmade = λ m. cc;
+}
+counts_answered name before now (Err reads.Failed) a h = absurd a
+counts_answered name before now (Err (reads.TooLong n)) a h = record {
+  failed = λ f. cc;
+  unfailed = λ _. h.other_kinds FailedRead refl;
+  answered = λ _. h.own;
+  unanswered = λ no. absurd (no a);
+  writes = h.other_kinds Write refl;
+  write_faults = h.other_kinds FailedWrite refl;
+  made = λ _. h.count;
+  unmade = λ m. cc;
+}
+counts_answered name before now (Err reads.Memory) a h = absurd a
+
+-- a failed read is noted as one
+pub counts_failed : (name : List ℕ) (before now : Calls) → NotedIn FailedRead name before now
+    → CountsRead name before now (Err reads.Failed)
+counts_failed name before now h = record {
+  failed = λ _. h.own;
+  unfailed = λ no. absurd (no refl);
+  answered = λ a. absurd a;
+  unanswered = λ _. h.other_kinds Read refl;
+  writes = h.other_kinds Write refl;
+  write_faults = h.other_kinds FailedWrite refl;
+  made = λ _. h.count;
+  unmade = λ m. cc;
+}
+
+-- what a read counts, whose place was taken first
+pub read_counts : (copy name : List ℕ) (before placed now : Calls)
+    (answer : Result (Vec ℕ) ReadAnswer)
+    → ((kind : CallKind) → SameAtEach (calls_of kind before) (calls_of kind placed))
+    → call_count placed ≡ call_count before → CountsRead copy placed now answer → copy ≡ name
+    → CountsRead name before now answer
+read_counts copy name before placed now answer same count h e = record {
+  failed = λ f. rises_from (calls_of FailedRead before) (calls_of FailedRead placed)
+      (calls_of FailedRead now) copy name (same FailedRead) (h.failed f) e;
+  unfailed = λ f. same_from (calls_of FailedRead before) (calls_of FailedRead placed)
+      (calls_of FailedRead now) (same FailedRead) (h.unfailed f);
+  answered = λ a. rises_from (calls_of Read before) (calls_of Read placed) (calls_of Read now) copy
+      name (same Read) (h.answered a) e;
+  unanswered = λ a. same_from (calls_of Read before) (calls_of Read placed) (calls_of Read now)
+      (same Read) (h.unanswered a);
+  writes = same_from (calls_of Write before) (calls_of Write placed) (calls_of Write now)
+      (same Write) h.writes;
+  write_faults = same_from (calls_of FailedWrite before) (calls_of FailedWrite placed)
+      (calls_of FailedWrite now) (same FailedWrite) h.write_faults;
+  made = λ m. h.made m ∙ ap (λ n. n + 1) count;
+  unmade = λ m. h.unmade m ∙ count;
+}
 
 -- a shelf that tells nothing says nothing of what it read
 pub untold_reads : (limit : ℕ) (result : Result (Vec ℕ) ReadAnswer)

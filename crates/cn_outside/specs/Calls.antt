@@ -1,10 +1,13 @@
 -- How often the calls of a shelf were made, by kind and name.
-use Rattle.std.specs.Prelude.{ℕ, ◌<◌, List, length, Bool, true, false, ◌&&◌}
+use Rattle.std.specs.Prelude.{◌≡◌, ℕ, ◌+◌, ◌<◌, List, length, Bool, true, false, ◌&&◌, Result, IsErrOf}
 use Rattle.std.specs.List.{count_by}
 use Rattle.std.specs.Str.{bytes_eq}
 use Rattle.std.specs.String.{string_bytes}
 use Rattle.std.specs.Vec.{vec_len, vec_capacity}
-use Rattle.cn_outside.specs.Shelf.{Files, Held}
+use Rattle.std.specs.Global.{Vec}
+use Rattle.cn_outside.specs.Shelf.{Files, Held, IsAnswered, RisesOnce, SameAtEach}
+use Rattle.cn_outside.specs.declared.outside.ReadAnswer.{ReadAnswer}
+use Rattle.cn_outside.specs.declared.outside.ReadAnswer.TheVariants.{Failed, Memory}
 use Rattle.cn_outside.specs.declared.calls.CallKind.{CallKind}
 use Rattle.cn_outside.specs.declared.calls.CallKind.TheVariants.{Read, FailedRead, Write, FailedWrite}
 use Rattle.cn_outside.specs.declared.calls.Call.{Call}
@@ -42,3 +45,17 @@ counted held calls = record {
 -- there is room for one more call
 abbrev pub HasRoom : Calls → Type 0
 HasRoom calls = vec_len calls.made < vec_capacity calls.made
+
+-- Which counts rise by a read of that name that is answered so.
+pub record CountsRead (name : List ℕ) (before now : Calls) (answer : Result (Vec ℕ) ReadAnswer) :
+    Type 0 where
+  pub failed : IsErrOf answer Failed
+      → RisesOnce name (calls_of FailedRead before) (calls_of FailedRead now)
+  pub unfailed : ¬ IsErrOf answer Failed
+      → SameAtEach (calls_of FailedRead before) (calls_of FailedRead now)
+  pub answered : IsAnswered answer → RisesOnce name (calls_of Read before) (calls_of Read now)
+  pub unanswered : ¬ IsAnswered answer → SameAtEach (calls_of Read before) (calls_of Read now)
+  pub writes : SameAtEach (calls_of Write before) (calls_of Write now)
+  pub write_faults : SameAtEach (calls_of FailedWrite before) (calls_of FailedWrite now)
+  pub made : ¬ IsErrOf answer Memory → call_count now ≡ call_count before + 1
+  pub unmade : IsErrOf answer Memory → call_count now ≡ call_count before

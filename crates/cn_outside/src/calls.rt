@@ -1,6 +1,6 @@
 //! The list of the calls that a shelf keeps.
 
-ghost use Rattle.std.specs.Prelude.{◌≡◌, ◌+◌, ◌<◌, ℕ, List, IfOk, OnOk, IsErrOf, false};
+ghost use Rattle.std.specs.Prelude.{◌≡◌, ◌+◌, ◌<◌, ℕ, List, IfOk, OnOk, false};
 ghost use Rattle.std.specs.String.{string_bytes};
 
 use crate::ReadAnswer;
@@ -30,10 +30,9 @@ pub struct Calls {
 }
 
 impl Calls {
-    ghost use Rattle.cn_outside.specs.Calls.{call_count, calls_of, same_kind, HasRoom};
-    ghost use Rattle.cn_outside.specs.Shelf.{IsAnswered, RisesOnce, SameAtEach};
+    ghost use Rattle.cn_outside.specs.Calls.{call_count, calls_of, same_kind, CountsRead, HasRoom};
+    ghost use Rattle.cn_outside.specs.Shelf.{RisesOnce, SameAtEach};
     ghost use Rattle.cn_outside.specs.declared.calls.CallKind.{CallKind};
-    ghost use Rattle.cn_outside.specs.declared.calls.CallKind.TheVariants.{Read, FailedRead, Write, FailedWrite};
 
     /// No call was made yet.
     pub fn new(alloc: Global) -> Calls
@@ -83,21 +82,7 @@ impl Calls {
     /// failed, or none where memory ran out.
     pub fn note_read(&mut self, name: String, answer: &Result<Vec<u8>, ReadAnswer>)
         requires { HasRoom self.old }
-        ensures failed { IsErrOf answer.now ReadAnswer.Failed → RisesOnce (string_bytes name)
-            (calls_of FailedRead self.old) (calls_of FailedRead self.new) }
-        ensures unfailed { ¬ IsErrOf answer.now ReadAnswer.Failed
-            → SameAtEach (calls_of FailedRead self.old) (calls_of FailedRead self.new) }
-        ensures answered { IsAnswered answer.now → RisesOnce (string_bytes name)
-            (calls_of Read self.old) (calls_of Read self.new) }
-        ensures unanswered { ¬ IsAnswered answer.now
-            → SameAtEach (calls_of Read self.old) (calls_of Read self.new) }
-        ensures writes { SameAtEach (calls_of Write self.old) (calls_of Write self.new) }
-        ensures write_faults { SameAtEach (calls_of FailedWrite self.old)
-            (calls_of FailedWrite self.new) }
-        ensures counted { ¬ IsErrOf answer.now ReadAnswer.Memory
-            → call_count self.new ≡ call_count self.old + 1 }
-        ensures uncounted { IsErrOf answer.now ReadAnswer.Memory
-            → call_count self.new ≡ call_count self.old }
+        ensures { CountsRead (string_bytes name) self.old self.new answer.now }
     {
         match answer {
             Ok(_) => self.note(CallKind::Read, name),

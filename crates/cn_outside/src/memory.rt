@@ -22,11 +22,11 @@ pub struct Trip {
 fn trip_of(trips: &[Trip], number: u64) -> Option<Trip>
     ensures { result ≡ trip_at trips.now number }
 {
-    trips.iter().find(|trip| trip.call == number).copied()
+    trips.iter().copied().find(|trip| trip.call == number)
 }
 
-/// A shelf in memory. A read of a name that holds nothing fails, and so does a call that is tripped.
-/// No other call does.
+/// A shelf in memory. A read of a name that holds nothing fails, and so does a call that is
+/// tripped. No other call does.
 #[derive(Drop)]
 pub struct MemoryShelf {
     files: BTreeMap<String, Vec<u8>>,
