@@ -1,55 +1,145 @@
 use super::*;
+use std::alloc::{AllocError, Global};
 use std::fs;
 use std::test::Fail;
 
-// A read that fails by its number, one of a name that isn't held, one that is too long, and one
-// that succeeds.
+// How a read ended, in a word.
+fn read_word(answer: &Result<Vec<u8>, ReadAnswer>) -> &'static str {
+    match answer {
+        Ok(_) => "read",
+        Err(ReadAnswer::Failed) => "failed",
+        Err(ReadAnswer::TooLong { .. }) => "too long",
+        Err(ReadAnswer::Memory) => "no memory",
+    }
+}
+
+// How a write or a put ended, in a word.
+fn write_word(answer: Result<(), WriteAnswer>) -> &'static str {
+    match answer {
+        Ok(()) => "done",
+        Err(WriteAnswer::Failed) => "failed",
+        Err(WriteAnswer::Memory) => "no memory",
+    }
+}
+
+fn trips(alloc: Global, numbers: &[u64], taken: usize) -> Result<Vec<Trip>, AllocError> {
+    let mut trips = Vec::new(alloc);
+    for call in numbers {
+        trips.push(Trip { call: *call, taken })?;
+    }
+    Ok(trips)
+}
+
+// Four calls on a shelf that holds `a`: it is read, `b` is read, `b` is written, `b` is read.
 #[test]
-fn reads_of_a_shelf_in_memory(rt: HostRuntime) -> Result<(), Fail> {
+fn calls_that_fail_by_number(rt: HostRuntime) -> Result<(), Fail> {
+    let alloc = rt.alloc();
+    let rows: [(&str, &[u64], [&str; 4]); 7] = [
+        ("no trip", &[], ["read", "failed", "done", "read"]),
+        ("the first", &[1], ["failed", "failed", "done", "read"]),
+        (
+            "a name that isn't held",
+            &[2],
+            ["read", "failed", "done", "read"],
+        ),
+        ("a write", &[3], ["read", "failed", "failed", "failed"]),
+        ("the last", &[4], ["read", "failed", "done", "failed"]),
+        (
+            "two of them",
+            &[3, 1],
+            ["failed", "failed", "failed", "failed"],
+        ),
+        (
+            "a number past all",
+            &[5, 0],
+            ["read", "failed", "done", "read"],
+        ),
+    ];
+    for (name, numbers, want) in rows {
+        let mut shelf = MemoryShelf::new(alloc);
+        shelf.hold(alloc, "a", b"one")?;
+        shelf.trip(trips(alloc, numbers, 0)?);
+        assert_eq!(rt; read_word(&shelf.read(alloc, "a", 3)), want[0], "{name}");
+        assert_eq!(rt; read_word(&shelf.read(alloc, "b", 3)), want[1], "{name}");
+        assert_eq!(rt;
+            write_word(shelf.write(alloc, "b", b"two")),
+            want[2],
+            "{name}"
+        );
+        assert_eq!(rt; read_word(&shelf.read(alloc, "b", 3)), want[3], "{name}");
+    }
+    Ok(())
+}
+
+// Two puts, and what the out has taken after them.
+#[test]
+fn puts_that_fail_by_number(rt: HostRuntime) -> Result<(), Fail> {
+    let alloc = rt.alloc();
+    let rows: [(&str, &[u64], usize, [&str; 2], &[u8]); 5] = [
+        ("no trip", &[], 0, ["done", "done"], b"onetwo"),
+        ("the first", &[1], 0, ["failed", "done"], b"two"),
+        (
+            "the second, after two bytes",
+            &[2],
+            2,
+            ["done", "failed"],
+            b"onetw",
+        ),
+        (
+            "the second, after all",
+            &[2],
+            9,
+            ["done", "failed"],
+            b"onetwo",
+        ),
+        (
+            "both, after a byte",
+            &[1, 2],
+            1,
+            ["failed", "failed"],
+            b"ot",
+        ),
+    ];
+    for (name, numbers, taken, want, bytes) in rows {
+        let mut out = MemoryOut::new(alloc);
+        out.trip(trips(alloc, numbers, taken)?);
+        assert_eq!(rt; write_word(out.put(alloc, b"one")), want[0], "{name}");
+        assert_eq!(rt; write_word(out.put(alloc, b"two")), want[1], "{name}");
+        assert_eq!(rt; out.taken(), bytes, "{name}");
+    }
+    Ok(())
+}
+
+// A text that is too long, and one that is as long as the limit.
+#[test]
+fn limits_in_memory(rt: HostRuntime) -> Result<(), Fail> {
     let alloc = rt.alloc();
     let mut shelf = MemoryShelf::new(alloc);
     shelf.hold(alloc, "a", b"one")?;
-    shelf.trip(vec![in alloc; Trip { call: 2, taken: 0 }]?);
+    assert_eq!(rt;
+        shelf.read(alloc, "a", 2),
+        Err(ReadAnswer::TooLong { limit: 2 })
+    );
     assert!(rt;
         shelf
             .read(alloc, "a", 3)
             .is_ok_and(|b| b.as_slice() == b"one".as_slice())
     );
-    assert!(rt; matches!(shelf.read(alloc, "a", 3), Err(ReadAnswer::Failed)));
-    assert!(rt; matches!(shelf.read(alloc, "b", 3), Err(ReadAnswer::Failed)));
-    assert!(rt;
-        matches!(
-            shelf.read(alloc, "a", 2),
-            Err(ReadAnswer::TooLong { limit: 2 })
-        )
-    );
-    assert!(rt; shelf.write(alloc, "b", b"two").is_ok());
-    assert!(rt;
-        shelf
-            .read(alloc, "b", 3)
-            .is_ok_and(|b| b.as_slice() == b"two".as_slice())
-    );
     Ok(())
 }
 
-// The second put takes two bytes and fails.
-#[test]
-fn puts_into_memory(rt: HostRuntime) -> Result<(), Fail> {
-    let alloc = rt.alloc();
-    let mut out = MemoryOut::new(alloc);
-    out.trip(vec![in alloc; Trip { call: 2, taken: 2 }]?);
-    assert!(rt; out.put(alloc, b"one").is_ok());
-    assert!(rt; matches!(out.put(alloc, b"two"), Err(WriteAnswer::Failed)));
-    assert_eq!(rt; out.taken(), b"onetw".as_slice());
-    Ok(())
-}
-
-// A file that isn't there, one that is written and read back, and one that is too long.
+// A file that isn't there, one that is written, read back and written again, and one that is too
+// long. Nothing is left beside it.
 #[test]
 fn files_of_the_host(rt: HostRuntime) -> Result<(), Fail> {
     let alloc = rt.alloc();
     let mut shelf = HostShelf::new(alloc, rt.clone()?);
     assert!(rt; matches!(shelf.read(alloc, "absent", 9), Err(ReadAnswer::Failed)));
+    assert!(rt;
+        shelf
+            .write(alloc, "present", b"some bytes, and more")
+            .is_ok()
+    );
     assert!(rt; shelf.write(alloc, "present", b"some bytes").is_ok());
     assert!(rt;
         shelf
@@ -63,6 +153,7 @@ fn files_of_the_host(rt: HostRuntime) -> Result<(), Fail> {
         )
     );
     assert_eq!(rt; fs::read_to_string(&rt, "present")?.as_str(), "some bytes");
+    assert!(rt; !fs::exists(&rt, "present.0.new")?);
     fs::remove_file(&rt, "present")?;
     Ok(())
 }
@@ -71,7 +162,7 @@ fn files_of_the_host(rt: HostRuntime) -> Result<(), Fail> {
 #[test]
 fn output_of_the_host(rt: HostRuntime) -> Result<(), Fail> {
     let alloc = rt.alloc();
-    let mut out = HostOut::new(alloc, rt.clone()?);
+    let mut out = HostOut::new(rt.clone()?);
     assert!(rt; out.put(alloc, b"some bytes\n").is_ok());
     assert!(rt; out.put(alloc, b"").is_ok());
     Ok(())
