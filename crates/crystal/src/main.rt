@@ -8,13 +8,17 @@ use cn_outside::{HostOut, HostShelf};
 use cn_top::{Status, command};
 use std::alloc::{AllocError, Global};
 use std::env;
+use std::io::ErrorKind;
 use std::process::ExitCode;
 
-/// The arguments after the program's name. Arguments that are no text are no listed form either.
+/// The arguments after the program's name. Where one of them is no text, whichever it is, the
+/// command line is faulty: there are no words then, which no form has. An Err is want of memory.
 fn words_of(rt: &HostRuntime, alloc: Global) -> Result<Vec<String>, AllocError> {
     let mut words = Vec::new(alloc);
-    let Ok(arguments) = env::args(rt) else {
-        return Ok(words);
+    let arguments = match env::args(rt) {
+        Ok(arguments) => arguments,
+        Err(error) if error.kind() == ErrorKind::OutOfMemory => return Err(AllocError),
+        Err(_) => return Ok(words),
     };
     for word in arguments.skip(1) {
         words.push(word)?;
@@ -27,7 +31,7 @@ fn run(rt: HostRuntime) -> Result<Status, AllocError> {
     let words = words_of(&rt, alloc)?;
     let files: HostRuntime = rt.clone()?;
     let mut shelf = HostShelf::new(alloc, files);
-    let mut out = HostOut::new(alloc, rt);
+    let mut out = HostOut::new(rt);
     Ok(command(alloc, words.as_slice(), &mut shelf, &mut out))
 }
 
