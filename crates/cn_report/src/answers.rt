@@ -67,6 +67,8 @@ pub fn print_pull(alloc: Global, net: &Net, k: u32, pull: &Pull) -> Result<Vec<u
     put_number(alloc, &mut text, u64::from(k))?;
     text.extend_from_slice(b" pull ")?;
     put_shown(alloc, &mut text, net, pull)?;
+    // Tables are long: what growth by doubling took too much is given back.
+    text.shrink_to_fit();
     Ok(text)
 }
 

@@ -71,5 +71,7 @@ pub fn write_trace(alloc: Global, net: &Net, history: &[Step]) -> Result<Vec<u8>
     for step in history {
         put_line(alloc, &mut text, net, step)?;
     }
+    // A trace is long: what growth by doubling took too much is given back.
+    text.shrink_to_fit();
     Ok(text)
 }
