@@ -16,7 +16,7 @@ use Rattle.cn_core.proofs.Logged.{state_nil, state_push}
 use Rattle.cn_change.specs.declared.command.Command.{Command}
 use Rattle.cn_serial.specs.declared.serial.Ran.{Ran}
 use Rattle.cn_serial.specs.Ran.{IsRan}
-use Rattle.cn_serial.specs.Serial.{AreAnswers, AreAnswersFrom, IsAnswer, at_mark, first_events, part_of, serial_play}
+use Rattle.cn_serial.specs.Serial.{AreAnswers, AreAnswersFrom, IsAnswer, at_mark, first_events, part_of, play_of, serial_play}
 
 -- ---- one event after another
 
@@ -164,20 +164,37 @@ run_more r commands i k core next answers c a inside is number grown answer so =
           (subst (λ x. IsAnswer x c a) log answer));
     }
 
-pub run_done : (r : RecordedOpening) (commands : List Command) (i : ℕ) (core : Log)
-    (answers : List Answer) (ran : Ran)
-    → length commands ≤ i → IsRunSoFar r commands i core answers → ran.core ≡ core
-    → ran.answers ≡ answers → IsRan r commands ran
-run_done r commands i core answers ran le so same_core same_answers =
+-- all commands have run: what was recorded, the play, and the answers
+pub record IsRunWhole (r : RecordedOpening) (commands : List Command) (core : Log)
+    (answers : List Answer) : Type 0 where
+  pub recorded : core.recorded ≡ r
+  pub history : core.history ≡ play_of r commands
+  pub answered : AreAnswers r commands answers
+
+pub run_whole : (r : RecordedOpening) (commands : List Command) (i : ℕ) (core : Log)
+    (answers : List Answer)
+    → length commands ≤ i → IsRunSoFar r commands i core answers
+    → IsRunWhole r commands core answers
+run_whole r commands i core answers le so =
     let l = at_start r in
     let all = take_all i commands le in
-    let log : ran.core ≡ log_after l 1 commands = same_core ∙ so.log ∙ ap (log_after l 1) all in
+    let log : core ≡ log_after l 1 commands = so.log ∙ ap (log_after l 1) all in
     record {
       recorded = ap (λ (x : Log). x.recorded) log ∙ log_recorded l 1 commands;
       history =
           ap (λ (x : Log). x.history) log ∙ log_history l 1 commands
           ∙ ap (λ s. serial_play s 1 commands) (state_nil r);
-      answers =
-          subst (λ x. AreAnswers r commands x) (sym same_answers)
-          (subst (λ cs. AreAnswersFrom l 1 cs answers) all so.so_far);
+      answered = subst (λ cs. AreAnswersFrom l 1 cs answers) all so.so_far;
+    }
+
+pub run_done : (r : RecordedOpening) (commands : List Command) (i : ℕ) (core : Log)
+    (answers : List Answer) (ran : Ran)
+    → length commands ≤ i → IsRunSoFar r commands i core answers → ran.core ≡ core
+    → ran.answers ≡ answers → IsRan r commands ran
+run_done r commands i core answers ran le so same_core same_answers =
+    let whole = run_whole r commands i core answers le so in
+    record {
+      recorded = ap (λ (x : Log). x.recorded) same_core ∙ whole.recorded;
+      history = ap (λ (x : Log). x.history) same_core ∙ whole.history;
+      answers = subst (λ x. AreAnswers r commands x) (sym same_answers) whole.answered;
     }

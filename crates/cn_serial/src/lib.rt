@@ -2,13 +2,14 @@
 //!
 //! `run_serial` makes the core of a recorded opening and does one command of the script after
 //! another: `work N` applies the first event in the serial order again and again, until N events
-//! have happened or the state is quiet, and `pull` asks what the devices hold. `specs/Serial.antt`
-//! has the play that comes of it and the answers, over the state and the events of `cn_core`; by
-//! `laws::one_answer` no script has two lists of answers. What is printed of a history or an answer
-//! is left to `cn_trace` and `cn_report`, and reading a script to `cn_readscript`.
+//! have happened or the state is quiet, and `pull` asks what the devices hold. `after_command` does
+//! one command, for whoever keeps no answer until the next. `specs/Serial.antt` has the play that
+//! comes of it and the answers, over the state and the events of `cn_core`; by `laws::one_answer` no
+//! script has two lists of answers. What is printed of a history or an answer is left to `cn_trace`
+//! and `cn_report`, and reading a script to `cn_readscript`.
 #![tactic(auto)]
 
 pub mod laws;
 mod serial;
 
-pub use serial::{Ran, run_serial};
+pub use serial::{Ran, after_command, run_serial};

@@ -62,6 +62,23 @@ fn run_command(
     }
 }
 
+/// One command, whose number is `k`: the core at the mark behind it, and the answer. So each answer
+/// can be used and dropped before the next command is run. The error is want of memory, for which
+/// the core is dropped.
+pub fn after_command(
+    alloc: Global,
+    core: Core,
+    k: u32,
+    command: &Command,
+) -> Result<(Core, Answer), AllocError>
+    ensures log { IfOk result (λ after. after.0 ≡ at_mark core k command.now) }
+    ensures answer { IfOk result (λ after. IsAnswer after.0 command.now after.1) }
+{
+    let mut core = core;
+    let answer = run_command(alloc, &mut core, k, command)?;
+    Ok((core, answer))
+}
+
 /// Runs a script in the serial order on the emulated devices of an opening, with speakers in place
 /// of the others. The error is want of memory.
 pub fn run_serial(alloc: Global, recorded: Recorded, script: &Script) -> Result<Ran, AllocError>
