@@ -1,5 +1,5 @@
 -- The plan and its answers, from what the steps say.
-use Rattle.std.proofs.Common.{◌≡◌, List, Option, refl, sym, ap, subst, ◌∙◌}
+use Rattle.std.proofs.Common.{◌≡◌, List, length, Option, refl, sym, ap, subst, ◌∙◌}
 use Rattle.cn_base.specs.declared.ids.DeviceId.{DeviceId}
 use Rattle.cn_cert.specs.Certificate.{NamesRefusal}
 use Rattle.cn_cert.specs.declared.certificate.CertWhy.{CertWhy}
@@ -68,12 +68,15 @@ module _ (net : Network) (set : List DeviceId) (rows : List Row) where
     answers_opening Memory h = tt
 
     -- the plan of a certified boundary
-    pub plan_opening : (r : RecordedOpening) → r ≡ record { opening = o; rows = rows }
-        → SaysSound o rows → IsPlanWith net set rows r
-    plan_opening r same sound =
+    pub plan_opening : length labels ≡ length net.devices → (r : RecordedOpening)
+        → r ≡ record { opening = o; rows = rows } → SaysSound o rows → IsPlanWith net set rows r
+    plan_opening sized r same sound =
         subst (IsPlanWith net set rows) (sym same) (record {
           emulated = ap (λ (x : Opening). x.emulated) is;
           safe = record { certified = opened; sound = sound };
+          labelled =
+              ap (λ (x : Opening). length x.labels) is ∙ sized
+              ∙ sym (ap (λ (x : Opening). length x.net.devices) is);
           rows_are = refl;
         })
 

@@ -1,5 +1,5 @@
 -- The plan of a network, and why there is none.
-use Rattle.std.specs.Prelude.{◌≡◌, Bool, List}
+use Rattle.std.specs.Prelude.{◌≡◌, Bool, List, length}
 use Rattle.cn_base.specs.declared.ids.DeviceId.{DeviceId}
 use Rattle.cn_cert.specs.declared.certificate.CertWhy.{CertWhy}
 use Rattle.cn_cert.specs.declared.certificate.CertWhy.TheVariants as cert
@@ -20,11 +20,13 @@ use Rattle.cn_plan.specs.declared.selection.Selection.{Selection}
 
 -- ---- a plan
 
--- the safe opening of the network with exactly these emulated devices, and its rows
+-- the safe opening of the network with exactly these emulated devices, an entry of labels for each
+-- device, and its rows
 pub record IsPlanWith (net : Network) (set : List DeviceId) (rows : List Row)
     (r : RecordedOpening) : Type 0 where
   pub emulated : r.opening.emulated ≡ set
   pub safe : IsSafeOpening net (outside_of set) rows r.opening
+  pub labelled : length r.opening.labels ≡ length r.opening.net.devices
   pub rows_are : r.rows ≡ rows
 
 -- the emulated devices are those that are selected, within the limits, and the opening with them is

@@ -14,7 +14,7 @@ returns-in-Ok-clause-ok c =
     IfOk-weaker c.recorded.result _ _
     (λ plan h. plan_opening c.args.net c.args.emulated c.args.saved c.in_ok-labels.labels
     c.in-Ok.certified c.in_ok-labels.ensures.islands c.in-Ok.ensures.ok c.valid.ensures
-    plan.recorded h.0 h.1)
+    c.in_ok-labels.ensures.size plan.recorded h.0 h.1)
     c.recorded.ensures.ok
 
 pub returns-in-Ok-clause-answer : goal.returns-in-Ok-clause-answer
