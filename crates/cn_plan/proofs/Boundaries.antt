@@ -36,7 +36,7 @@ unsound_denies o rows d p held wanted opened first sound =
 module _ (net : Network) (outside : DeviceId → Bool) where
   -- ---- the labels of the islands are one
 
-  holds_not_fails : CertificateHolds net outside → CertificateFails net outside → ⊥
+  pub holds_not_fails : CertificateHolds net outside → CertificateFails net outside → ⊥
   holds_not_fails (x, islands, holds) (y, others, fails) =
       fails (certificate_agrees net x y
       (same_islands net x y (islands_agree net outside x y islands others)) outside holds)
@@ -66,11 +66,12 @@ module _ (net : Network) (outside : DeviceId → Bool) where
     these : outside_of o.emulated ≡ outside
     these i d = emulated d i
 
-    carried : (P : Network → (DeviceId → Bool) → Type 0) → P o.net (outside_of o.emulated)
+    -- what is so of its own network and its own outside devices is so of these, and back
+    pub carried : (P : Network → (DeviceId → Bool) → Type 0) → P o.net (outside_of o.emulated)
         → P net outside
     carried P h = subst (λ n. P n outside) network (subst (λ f. P o.net f) these h)
 
-    back : (P : Network → (DeviceId → Bool) → Type 0) → P net outside
+    pub back : (P : Network → (DeviceId → Bool) → Type 0) → P net outside
         → P o.net (outside_of o.emulated)
     back P h = subst (λ f. P o.net f) (sym these) (subst (λ n. P n outside) (sym network) h)
 

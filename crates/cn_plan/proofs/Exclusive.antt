@@ -11,7 +11,7 @@ use Rattle.cn_net.proofs.OneSet.{same_sets}
 use Rattle.cn_record.specs.Recorded.{RecordedOpening}
 use Rattle.cn_record.specs.declared.saved.Row.{Row}
 use Rattle.cn_plan.specs.Boundary.{BoundaryFault, IsFirstFault, of_certificate, of_record}
-use Rattle.cn_plan.specs.Planned.{AnswersPlan, AnswersWithin, IsPlan}
+use Rattle.cn_plan.specs.Planned.{AnswersPlan, IsPlan}
 use Rattle.cn_plan.specs.Selected.{IsSelected}
 use Rattle.cn_plan.specs.declared.answer.PlanAnswer.{PlanAnswer}
 use Rattle.cn_plan.specs.declared.answer.PlanAnswer.TheVariants.{Memory, Refused, TooMany, Unsound}
@@ -34,7 +34,7 @@ one_selected net (Must must) x y (grown, up) (grown', up') =
 one_selected net (Emulate emulated) x y is is' = is ∙ sym is'
 
 -- a set within the limits passes none
-within_passes_none : (net : Network) (set : List DeviceId) (w : What) (count : ℕ)
+pub within_passes_none : (net : Network) (set : List DeviceId) (w : What) (count : ℕ)
     → IsWithinLimits net set → PassesLimit net set w count → ⊥
 within_passes_none net set what.Emulated count limits (is, above) =
     omega (arith, limits.few_emulated)

@@ -1,5 +1,6 @@
 pub mod Boundaries
 pub mod Exclusive
+pub mod OneFault
 pub mod SameRows
 pub mod Rows
 pub mod Steps

@@ -27,3 +27,10 @@ pub fn plan_or_answer()
         (answer : PlanAnswer)
         → IsPlan net selection rows r → AnswersPlan net selection rows answer → answer ≡ Memory }
 {}
+
+/// What is first wrong with a boundary is one: the first refusal, or the first record that isn't
+/// sound.
+pub fn first_fault_is_one()
+    ensures { (net : Network) (outside : DeviceId → Bool) (rows : List Row) (f g : BoundaryFault)
+        → IsFirstFault net outside rows f → IsFirstFault net outside rows g → f ≡ g }
+{}
