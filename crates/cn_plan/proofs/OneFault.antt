@@ -54,7 +54,7 @@ prefix_tied p q f g =
     λ i. record { bits = bits i; len = len i }
 
 -- devices and prefixes of which neither pair stands before the other
-pair_tied : (d x : DeviceId) (p q : Cidr) → (pair_cmp (d, p) (x, q) ≡ Less → ⊥)
+pub pair_tied : (d x : DeviceId) (p q : Cidr) → (pair_cmp (d, p) (x, q) ≡ Less → ⊥)
     → (pair_cmp (x, q) (d, p) ≡ Less → ⊥) → (d ≡ x) × (p ≡ q)
 pair_tied d x p q f g =
     let number : d.0 ≡ x.0 = grind (arith, nat_tests) in
@@ -195,7 +195,7 @@ not_alike true false e t = absurd cc
 not_alike false b e t = absurd cc
 
 -- two certified openings of a network with the same emulated devices differ in their labels alone
-emulated_one : (net : Network) (outside : DeviceId → Bool) (o q : Opening)
+pub emulated_one : (net : Network) (outside : DeviceId → Bool) (o q : Opening)
     → IsCertifiedOpening net outside o → IsCertifiedOpening net outside q
     → o.emulated ≡ q.emulated
 emulated_one net outside o q c k =
