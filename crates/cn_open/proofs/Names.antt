@@ -17,7 +17,8 @@ use Rattle.cn_net.specs.Drafted.{device_draft, draft_of}
 use Rattle.cn_net.specs.Network.{Network, IsDevice, name_of}
 use Rattle.cn_net.specs.declared.device.Device.{Device}
 use Rattle.cn_net.specs.declared.draft.DeviceDraft.{DeviceDraft}
-use Rattle.cn_open.specs.Faults.{IsFirstUnknown, TellsUnknown, first_unknown, is_written}
+use Rattle.cn_open.specs.Faults.{first_unknown, is_written}
+use Rattle.cn_open.specs.Steps.{IsFirstUnknown, TellsUnknown}
 use Rattle.cn_open.specs.declared.fault.NameAnswer.{NameAnswer}
 use Rattle.cn_open.specs.declared.fault.NameAnswer.TheVariants.{Unknown, Memory}
 

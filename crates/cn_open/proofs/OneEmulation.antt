@@ -1,21 +1,24 @@
 -- A text stands for at most one network, one choice of its devices and one list of rows.
-use Rattle.std.proofs.Common.{◌≡◌, ℕ, ◌++◌, Bool, true, false, not, List, [], ◌∷◌, map, All, Option, Some, None, option_map, Result, Ok, refl, sym, ap, subst, ◌∙◌, arith}
+use Rattle.std.proofs.Common.{◌≡◌, ℕ, ◌++◌, Bool, false, not, List, [], ◌∷◌, map, All, Option, Some, None, option_map, Result, Ok, refl, sym, ap, subst, ◌∙◌}
 use Rattle.std.specs.Prelude.{find}
 use Rattle.std.specs.List.{IsDistinct, flat_map}
 use Rattle.std.specs.Str.{bytes_eq}
 use Rattle.std.proofs.lemmas.List.Elements.{All-contains, All-head, All-tail}
 use Rattle.std.proofs.lemmas.Option.{none-some, same_Some}
+use Rattle.cn_base.specs.Cidr.{Cidr}
 use Rattle.cn_base.specs.declared.ids.DeviceId.{DeviceId}
 use Rattle.cn_grow.specs.Growth.{IsGrown}
 use Rattle.cn_net.specs.Drafted.{draft_of}
 use Rattle.cn_net.specs.Islands.{holds_device}
 use Rattle.cn_net.specs.Network.{Network, IsDevice, name_of}
+use Rattle.cn_net.specs.Valid.{IsValid}
 use Rattle.cn_net.specs.declared.draft.Draft.{Draft}
 use Rattle.cn_net.proofs.Drafts.{same_name, same_network}
 use Rattle.cn_net.proofs.Making.{faultless_where}
 use Rattle.cn_net.proofs.OneSet.{same_sets}
 use Rattle.cn_net.specs.Limits.{IsWithinLimits}
-use Rattle.cn_net.specs.declared.fault.What.TheVariants.{Devices, Links, Prefixes, Emulated, Rows}
+use Rattle.cn_net.specs.declared.fault.What.{What}
+use Rattle.cn_plan.proofs.Exclusive.{within_passes_none}
 use Rattle.cn_readnet.specs.Plan.{plan_of}
 use Rattle.cn_readnet.specs.declared.plan.NetText.{NetText}
 use Rattle.cn_readnet.specs.declared.record.RowDraft.{RowDraft}
@@ -24,11 +27,13 @@ use Rattle.cn_readnet.specs.declared.selection.NameSelection.TheVariants.{Emulat
 use Rattle.cn_record.specs.Rows.{IsRepeated}
 use Rattle.cn_record.specs.declared.saved.Row.{Row}
 use Rattle.cn_text.specs.declared.answer.TextAnswer.{TextAnswer}
-use Rattle.cn_open.specs.Emulation.{Chooses, Emulation, IsBorne, IsEmulationOf, IsRowOf, IsSender, PlanStandsFor, ReadAs, StandsFor, row_draft}
-use Rattle.cn_open.specs.Faults.{IsPlanFault, first_unknown, is_written, plan_names, row_names, selection_names, sender_names}
+use Rattle.cn_open.specs.Depth.{Depth, named, sound}
+use Rattle.cn_open.specs.Emulation.{Chooses, Emulation, IsBorne, IsEmulationOf, IsRowOf, IsSender, PlanStandsFor, ReadAs, ReadsPlan, StandsFor, row_draft}
+use Rattle.cn_open.specs.Faults.{IsKnown, IsPlanFault, PassesLimitAt, first_unknown, is_written, plan_names, row_names, selection_names, sender_names}
 use Rattle.cn_open.specs.declared.fault.PlanFault.{PlanFault}
 use Rattle.cn_open.specs.declared.fault.PlanFault.TheVariants as fault
 use Rattle.cn_open.proofs.Names.{find_behind, find_no, find_none, written}
+use Rattle.cn_open.proofs.Selections.{same_from}
 
 -- ---- rows
 
@@ -79,11 +84,6 @@ module _ (net : Network) (distinct : IsDistinct bytes_eq (map (λ d. d.name) net
 
 -- ---- the emulated devices
 
-same_from : (a b : Bool) → (a ≡ true → b ≡ true) → (b ≡ true → a ≡ true) → a ≡ b
-same_from true b f g = sym (f refl)
-same_from false true f g = g refl
-same_from false false f g = refl
-
 -- growth from the same devices gives the same devices
 grown_alike : (net : Network) (given given' xs ys : List DeviceId)
     → ((d : DeviceId) → holds_device given d ≡ holds_device given' d) → IsGrown net given xs
@@ -97,13 +97,13 @@ chosen_alike : (net : Network) (selection : NameSelection) (xs ys : List DeviceI
     → Chooses net selection xs → Chooses net selection ys → (d : DeviceId)
     → holds_device xs d ≡ holds_device ys d
 chosen_alike net (Emulate names) xs ys h k d = h.exactly d ∙ sym (k.exactly d)
-chosen_alike net (Must names) xs ys (given, named, grown) (given', named', grown') d =
-    grown_alike net given given' xs ys (λ x. named.exactly x ∙ sym (named'.exactly x)) grown grown'
-    d
+chosen_alike net (Must names) xs ys (given, selects, grown) (given', selects', grown') d =
+    grown_alike net given given' xs ys (λ x. selects.exactly x ∙ sym (selects'.exactly x)) grown
+    grown' d
 
 -- ---- all of it
 
-pub same_text : (read : Result NetText TextAnswer) (x y : NetText) → read ≡ Ok x → read ≡ Ok y
+same_text : (read : Result NetText TextAnswer) (x y : NetText) → read ≡ Ok x → read ≡ Ok y
     → x ≡ y
 same_text read x y p q = cc
 
@@ -120,10 +120,14 @@ same_emulation text x y h k =
     let rows = read_as_one x.net h.valid.names text.rows x.rows y.rows h.recorded recorded in
     λ i. record { net = net i; emulated = emulated i; rows = rows i }
 
+-- one plan is read from a text
+pub one_text : (bytes : List ℕ) (x y : NetText) → ReadsPlan bytes x → ReadsPlan bytes y → x ≡ y
+one_text bytes x y h k = same_text (plan_of bytes) x y h.1 k.1
+
 pub one_emulation : (bytes : List ℕ) (x y : Emulation) → StandsFor bytes x → StandsFor bytes y
     → x ≡ y
 one_emulation bytes x y (text, read, h) (text', read', k) =
-    let same = same_text (plan_of bytes) text' text read'.1 read.1 in
+    let same = one_text bytes text' text read' read in
     let k' = subst (λ (t : NetText). IsEmulationOf t y) same k.0 in
     same_emulation text x y h.0 k'
 
@@ -166,7 +170,7 @@ module _ (net : Network) where
   chosen_known : (selection : NameSelection) (set : List DeviceId) → Chooses net selection set
       → All (IsBorne net) (selection_names selection)
   chosen_known (Emulate names) set h = h.known
-  chosen_known (Must names) set (given, named, grown) = named.known
+  chosen_known (Must names) set (given, selects, grown) = selects.known
 
   pub all_known : (selection : NameSelection) (set : List DeviceId) (drafts : List RowDraft)
       (rows : List Row)
@@ -179,31 +183,41 @@ module _ (net : Network) where
       ∙ ap (λ (ds : List RowDraft). find unborne (flat_map row_names ds)) (sym read.written)
       ∙ rows_known rows read.each
 
-pub stands_faultless : (text : NetText) (e : Emulation) (fault : PlanFault) → PlanStandsFor text e
-    → IsPlanFault text fault → ⊥
-stands_faultless text e (fault.Net f) (h, limits) is =
-    none-some f (sym (faultless_where text.draft (e.net, h.valid, h.draft)) ∙ is)
-stands_faultless text e (fault.Unknown name) (h, limits) (faultless, is) =
-    let known =
-    subst (λ (d : Draft). first_unknown d (plan_names text) ≡ None) h.draft
-    (all_known e.net text.selection e.emulated text.rows e.rows h.chosen h.recorded) in
-    none-some name (sym known ∙ is)
-stands_faultless text e (fault.Repeat device prefix) (h, limits)
-    (known, (net, rows, drafted, valid, read, first)) =
+-- all names of a plan that describes an emulation are those of devices
+pub described_known : (text : NetText) (e : Emulation) → IsEmulationOf text e → IsKnown text
+described_known text e h = (
+  faultless_where text.draft (e.net, h.valid, h.draft),
+  subst (λ (d : Draft). first_unknown d (plan_names text) ≡ None) h.draft
+      (all_known e.net text.selection e.emulated text.rows e.rows h.chosen h.recorded),
+)
+
+-- it has no row twice
+pub described_once : (text : NetText) (e : Emulation) (net : Network) (rows : List Row)
+    (d : DeviceId) (p : Cidr)
+    → IsEmulationOf text e → draft_of net ≡ text.draft → IsValid net → ReadAs net text.rows rows
+    → IsRepeated rows d p → ⊥
+described_once text e net rows d p h drafted valid read repeated =
     let same : net ≡ e.net = same_network net e.net valid h.valid (drafted ∙ sym h.draft) in
     let read' = subst (λ (n : Network). ReadAs n text.rows rows) same read in
     let one = read_as_one e.net h.valid.names text.rows rows e.rows read' h.recorded in
-    h.once device prefix (subst (λ (xs : List Row). IsRepeated xs device prefix) one first.repeated)
-stands_faultless text e (fault.TooMany Devices count) (h, limits) (f, k, passes) = absurd passes
-stands_faultless text e (fault.TooMany Links count) (h, limits) (f, k, passes) = absurd passes
-stands_faultless text e (fault.TooMany Prefixes count) (h, limits) (f, k, passes) = absurd passes
-stands_faultless text e (fault.TooMany Emulated count) (h, limits) (f, k, passes) =
-    let within =
-    subst (λ (x : Emulation). IsWithinLimits x.net x.emulated) (same_emulation text e f h k)
-    limits in
-    omega (arith, within.few_emulated, passes.1)
-stands_faultless text e (fault.TooMany Rows count) (h, limits) (f, k, passes) =
-    let within =
-    subst (λ (x : Emulation). IsWithinLimits x.net x.emulated) (same_emulation text e f h k)
-    limits in
-    omega (arith, within.few_rows, passes.2)
+    h.once d p (subst (λ (xs : List Row). IsRepeated xs d p) one repeated)
+
+limits_hold : (depth : Depth) (e : Emulation) (what : What) (count : ℕ)
+    → IsWithinLimits e.net e.emulated → PassesLimitAt depth e what count → ⊥
+limits_hold named e what count limits passes = passes
+limits_hold sound e what count limits passes =
+    within_passes_none e.net e.emulated what count limits passes
+
+pub stands_faultless : (depth : Depth) (text : NetText) (e : Emulation) (fault : PlanFault)
+    → PlanStandsFor text e → IsPlanFault depth text fault → ⊥
+stands_faultless depth text e (fault.Net f) (h, limits) is =
+    none-some f (sym (described_known text e h).0 ∙ is)
+stands_faultless depth text e (fault.Unknown name) (h, limits) (faultless, is) =
+    none-some name (sym (described_known text e h).1 ∙ is)
+stands_faultless depth text e (fault.Repeat d p) (h, limits)
+    (known, (net, rows, drafted, valid, read, first)) =
+    described_once text e net rows d p h drafted valid read first.repeated
+stands_faultless depth text e (fault.TooMany what count) (h, limits) (f, k, passes) =
+    limits_hold depth e what count limits
+    (subst (λ (x : Emulation). PassesLimitAt depth x what count) (same_emulation text f e k h)
+    passes)

@@ -1,23 +1,21 @@
 -- The devices that names select, found one name after another.
-use Rattle.std.proofs.Common.{◌≡◌, ◌<◌, ◌+◌, ℕ, Bool, true, false, cond, List, [], append-nil, map, take, None, ◌∷◌, ◌++◌, length, get_or, All, Option, Some, unwrap_or, option_map, refl, sym, ap, subst, ◌∙◌, inl, inr, arith}
-use Rattle.std.specs.List.{filter, range_with_len}
+use Rattle.std.proofs.Common.{◌≡◌, ◌<◌, ◌+◌, ℕ, Bool, true, false, List, [], take, ◌∷◌, ◌++◌, length, get_or, Option, Some, unwrap_or, option_map, refl, sym, ap, subst, ◌∙◌, inl, inr, arith}
 use Rattle.std.specs.Str.{bytes_eq}
-use Rattle.std.proofs.lemmas.Bool.{cases_lt, cond-false, cond-true, false≢true, eqb-true, eq-eqb}
-use Rattle.std.proofs.lemmas.List.{get_or-map, get_or_push, get_or_append_left, get_or_default, length-append, length-map, map-append, take_more}
+use Rattle.std.proofs.lemmas.Bool.{cases_lt, false≢true, eqb-true, eq-eqb}
+use Rattle.std.proofs.lemmas.List.{get_or_push, get_or_append_left, get_or_default, length-append, map-append, take_more}
 use Rattle.std.proofs.lemmas.List.Elements.{All-push}
-use Rattle.std.proofs.lemmas.List.FromFn.{filter_of_map_range_with_len_more}
 use Rattle.std.proofs.lemmas.List.Folds.{list_any_at, Any-from_list_any}
 use Rattle.std.proofs.lemmas.Option.{slice_get_cases, slice_get_past}
 use Rattle.std.proofs.lemmas.Slice.Eq.{bytes_eq-Decides}
 use Rattle.cn_base.specs.declared.ids.DeviceId.{DeviceId}
 use Rattle.cn_net.specs.declared.device.Device.{Device}
 use Rattle.cn_net.specs.Islands.{holds_device}
-use Rattle.cn_net.specs.Network.{Network, IsDevice, device_ids, device_of, name_of, same_device}
+use Rattle.cn_net.specs.Network.{Network, IsDevice, device_of, name_of, same_device}
 use Rattle.cn_net.specs.Valid.{IsValid}
 use Rattle.cn_net.proofs.Drafts.{same_name}
 use Rattle.cn_readnet.specs.declared.record.RowDraft.{RowDraft}
 use Rattle.cn_record.specs.declared.saved.Row.{Row}
-use Rattle.cn_open.specs.Emulation.{IsBorne, IsRowOf, ReadAs, Selects, is_named, names_device, row_draft}
+use Rattle.cn_open.specs.Emulation.{IsRowOf, ReadAs, Selects, is_named, names_device, row_draft}
 use Rattle.cn_open.specs.Selection.{ReadsAs}
 
 abbrev Bears : Network → DeviceId → List ℕ → Type 0
@@ -60,15 +58,8 @@ found_more net names before after k d name found is lt at bears =
       ];
     })
 
--- a name that no device bears
-pub unknown : (net : Network) (names : List (List ℕ)) (k : ℕ) (name : List ℕ) → k < length names
-    → name ≡ get_or names k name → ((d : DeviceId) → IsDevice net d → name_of net d ≡ name → ⊥)
-    → All (IsBorne net) names → ⊥
-unknown net names k name lt at none all =
-    let borne = all k name lt in
-    none borne.0 borne.1 (borne.2 ∙ sym at)
-
-same_from : (a b : Bool) → (a ≡ true → b ≡ true) → (b ≡ true → a ≡ true) → a ≡ b
+-- tests of which each passes where the other does are one
+pub same_from : (a b : Bool) → (a ≡ true → b ≡ true) → (b ≡ true → a ≡ true) → a ≡ b
 same_from true b f g = sym (f refl)
 same_from false true f g = g refl
 same_from false false f g = refl
@@ -138,37 +129,6 @@ module _ (net : Network) (valid : IsValid net) (names : List (List ℕ)) (device
         (named_is_held d);
   }
 
--- ---- the devices that a test keeps
-
--- the first n numbers of devices
-abbrev pub ids : ℕ → List DeviceId
-ids n = map (λ k. record { 0 = k }) (range_with_len 0 n)
-
-pub all_ids : (net : Network) (n : ℕ) → n ≡ length net.devices → ids n ≡ device_ids net
-unfolding device_ids
-all_ids net n e = ap ids e
-
-module _ (p : DeviceId → Bool) (n : ℕ) (before after : List DeviceId) (d : DeviceId)
-    (here : d ≡ record { 0 = n }) where
-  more : filter p (ids (n + 1))
-      ≡ filter p (ids n) ++ cond (p (record { 0 = n })) (record { 0 = n } ∷ []) []
-  more = filter_of_map_range_with_len_more p (λ k. record { 0 = k }) 0 n n (omega arith)
-
-  pub kept_more : before ≡ filter p (ids n) → p d ≡ true → after ≡ before ++ d ∷ []
-      → after ≡ filter p (ids (n + 1))
-  kept_more so passes is =
-      let id : DeviceId = record { 0 = n } in
-      let one : cond (p id) (id ∷ []) [] ≡ d ∷ [] =
-      cond-true (p id) (id ∷ []) [] (ap p (sym here) ∙ passes) ∙ (λ i. sym here i ∷ []) in
-      is ∙ (λ i. so i ++ sym one i) ∙ sym more
-
-  pub kept_same : before ≡ filter p (ids n) → p d ≡ false → before ≡ filter p (ids (n + 1))
-  kept_same so fails =
-      let id : DeviceId = record { 0 = n } in
-      let none : cond (p id) (id ∷ []) [] ≡ [] =
-      cond-false (p id) (id ∷ []) [] (ap p (sym here) ∙ fails) in
-      so ∙ sym (append-nil (filter p (ids n))) ∙ (λ i. filter p (ids n) ++ sym none i) ∙ sym more
-
 -- ---- rows that are written with names
 
 module _ (net : Network) (drafts : List RowDraft) (i : ℕ) (draft : RowDraft)
@@ -182,21 +142,3 @@ module _ (net : Network) (drafts : List RowDraft) (i : ℕ) (draft : RowDraft)
             map-append (row_draft net) rows (row ∷ []) ∙ (λ j. h.written j ++ reads.1 j ∷ [])
             ∙ (λ j. take i drafts ++ is j ∷ []) ∙ sym (take_more drafts i draft here);
       })
-
-  pub read_none : ((row : Row) → ReadsAs net draft row → ⊥) → (rows : List Row)
-      → ReadAs net drafts rows → ⊥
-  read_none none rows h =
-      let any : Row = record {
-        device = record { 0 = 0 };
-        prefix = draft.prefix;
-        choice = record { from = None; path = draft.path; origin = draft.origin };
-      } in
-      let size : length rows ≡ length drafts =
-      sym (length-map rows (row_draft net)) ∙ ap length h.written in
-      let row = get_or rows i any in
-      let lt : i < length rows = omega (arith, size) in
-      let reads : row_draft net row ≡ draft =
-      sym (get_or-map (row_draft net) rows i any (row_draft net any) lt)
-      ∙ (λ j. get_or (h.written j) i (row_draft net any))
-      ∙ get_or_default drafts i (row_draft net any) draft here ∙ sym is in
-      none row (h.each i any lt, reads)

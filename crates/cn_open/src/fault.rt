@@ -29,9 +29,15 @@ pub enum OpenFault {
     /// No plan is read from the text.
     NoPlan,
     /// The plan stands for no emulation; its draft has the names.
-    Net { draft: Draft, fault: PlanFault },
+    Net {
+        draft: Draft,
+        fault: PlanFault,
+    },
     /// The certificate of its boundary is refused, for this first.
-    Refused { net: Net, refusal: Refusal },
+    Refused {
+        net: Net,
+        refusal: Refusal,
+    },
     /// The record of this device and prefix is the first that isn't sound: what is recorded, and
     /// what the device holds.
     Unsound {

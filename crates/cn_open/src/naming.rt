@@ -63,8 +63,7 @@ fn selected(alloc: Global, net: &Net, text: &NetText) -> Result<Selection, Stage
 /// The rows of a plan whose selection is known.
 fn recorded(alloc: Global, net: &Net, text: &NetText) -> Result<Saved, StageAnswer>
     requires drafted { draft_of net.now ≡ text.now.draft }
-    requires known
-        { first_unknown (draft_of net.now) (selection_names text.now.selection) ≡ None }
+    requires known { first_unknown (draft_of net.now) (selection_names text.now.selection) ≡ None }
     ensures rows { IfOk result (AreRowsOf net.now text.now) }
     ensures fault { IfErr result (StopsAt text.now) }
 {
