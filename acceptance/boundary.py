@@ -3,12 +3,12 @@
 
     acceptance/boundary.py PROGRAM
 
-The fabric has three pods (RFC 7938, 3.2 and 5.2.1): each rack has an AS number of its own and one or two
-prefixes, the leaves of a pod share an AS number, and so do the spines. From one rack grow its pod's leaves
-and the spines. The other devices are outside, with records of what they hold where the emulated ones are
-away. The program runs this plan, and the plan in which all devices are emulated and nothing is recorded. Both
-must end quiet, and each device that is emulated in the first must have the same table in both. Ends with
-status 1 and the reason where it isn't so.
+The fabric has three pods (RFC 7938, 3.2 and 5.2.1): each rack has an AS number of its own and one
+or two prefixes, the leaves of a pod share an AS number, and so do the spines. From one rack grow
+its pod's leaves and the spines. The other devices are outside, with records of what they hold where
+the emulated ones are away. The program runs this plan, and the plan in which all devices are
+emulated and nothing is recorded. Both must end quiet, and each device that is emulated in the first
+must have the same table in both. Ends with status 1 and the reason where it isn't so.
 """
 import json
 import pathlib
@@ -16,7 +16,7 @@ import subprocess
 import sys
 import tempfile
 
-sys.dont_write_bytecode = True  # each folder beside this file is a case
+sys.dont_write_bytecode = True
 import fixpoint
 
 PODS, LEAVES, RACKS, SPINES = 3, 2, 2, 2
@@ -26,11 +26,14 @@ GROWN = ["p0r0", "p0l0", "p0l1", "s0", "s1"]
 
 
 def fabric():
-    """The devices and links. Each rack is linked to all leaves of its pod, and each leaf to all spines."""
+    """The devices and links. Each rack is linked to all leaves of its pod, and each leaf to all
+    spines."""
     devices, links = [], []
 
     def add(name, layer, asn, own):
-        devices.append({"name": name, "layer": layer, "asn": asn, "id": f"172.16.0.{len(devices) + 1}", "own": own})
+        address = f"172.16.0.{len(devices) + 1}"
+        device = {"name": name, "layer": layer, "asn": asn, "id": address, "own": own}
+        devices.append(device)
 
     for pod in range(PODS):
         for rack in range(RACKS):
@@ -63,7 +66,8 @@ def text(front, **tables):
     lines = ["version = 1", front]
     for name, entries in tables.items():
         for entry in entries:
-            lines += [f"[[{name}]]"] + [f"{key} = {json.dumps(value)}" for key, value in entry.items()]
+            lines.append(f"[[{name}]]")
+            lines += [f"{key} = {json.dumps(value)}" for key, value in entry.items()]
     return "".join(line + "\n" for line in lines)
 
 
@@ -73,7 +77,9 @@ def run(program, plan):
         pathlib.Path(spot, "q.toml").write_text(plan)
         pathlib.Path(spot, "s.toml").write_text(SCRIPT)
         words = [program, "serial", "q.toml", "s.toml", "t.txt"]
-        ended = subprocess.run(words, cwd=spot, stdin=subprocess.DEVNULL, capture_output=True, text=True)
+        ended = subprocess.run(
+            words, cwd=spot, stdin=subprocess.DEVNULL, capture_output=True, text=True
+        )
     if ended.returncode != 0 or ended.stderr or not ended.stdout.startswith(QUIET):
         sys.exit(f"status {ended.returncode}: {ended.stdout[:200]}{ended.stderr}")
     found = {}
@@ -88,7 +94,8 @@ def run(program, plan):
 def main(program):
     devices, links = fabric()
     names = [device["name"] for device in devices]
-    part = run(program, text('must = ["p0r0"]', device=devices, link=links, record=records(devices, links)))
+    kept = records(devices, links)
+    part = run(program, text('must = ["p0r0"]', device=devices, link=links, record=kept))
     whole = run(program, text(f"emulate = {json.dumps(names)}", device=devices, link=links))
     if list(part) != GROWN or list(whole) != names:
         sys.exit(f"emulated are {list(part)} and {list(whole)}")
