@@ -32,6 +32,7 @@ echo "usage: a line that must not be seen"
 [ -e "$HOME/fails" ] && exit 1
 mkdir -p out
 cp "$HOME/program" out/crystal
+sleep 0.1
 [ -e "$HOME/edits" ] && echo edited >>src/main.rt
 sleep 0.1
 touch out/crystal
