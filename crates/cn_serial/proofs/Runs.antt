@@ -171,6 +171,12 @@ pub record IsRunWhole (r : RecordedOpening) (commands : List Command) (core : Lo
   pub history : core.history ≡ play_of r commands
   pub answered : AreAnswers r commands answers
 
+-- what is recorded stays
+pub run_recorded : (r : RecordedOpening) (commands : List Command) (i : ℕ) (core : Log)
+    (answers : List Answer) → IsRunSoFar r commands i core answers → core.recorded ≡ r
+run_recorded r commands i core answers so =
+    ap (λ (x : Log). x.recorded) so.log ∙ log_recorded (at_start r) 1 (take i commands)
+
 pub run_whole : (r : RecordedOpening) (commands : List Command) (i : ℕ) (core : Log)
     (answers : List Answer)
     → length commands ≤ i → IsRunSoFar r commands i core answers
