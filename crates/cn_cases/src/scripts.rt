@@ -3,10 +3,12 @@
 use crate::build::{DeviceRow, LinkRow, network};
 use crate::nets::{FIVE, FIVE_LINKS, L1, S1, T1};
 use crate::opening::{RecordRow, recorded};
+use cn_core::Core;
 use cn_net::Net;
 use cn_readscript::read_script;
+use cn_record::Recorded;
 use cn_report::print_answer;
-use cn_serial::{Ran, run_serial};
+use cn_serial::{Ran, after_command, run_serial};
 use cn_trace::write_trace;
 use std::alloc::Global;
 use std::test::Fail;
@@ -167,6 +169,35 @@ fn scripts_are_answered(rt: HostRuntime) -> Result<(), Fail> {
         let ran = ran(alloc, net, emulated, records, script)?;
         let found = answers(alloc, &ran, script)?;
         assert_eq!(rt; found.as_str(), *text, "{case}");
+    }
+    Ok(())
+}
+
+// The texts of the answers, where each answer is dropped before the next command is run.
+fn told(alloc: Global, recorded: Recorded, text: &str) -> Result<String, Fail> {
+    let script = read_script(alloc, text.as_bytes())?;
+    let Ok(mut core) = Core::start(alloc, recorded) else {
+        return Err(Fail::new("no memory"));
+    };
+    let mut k = 1u32;
+    let mut texts = String::new(alloc);
+    for command in script.items() {
+        let (next, answer) = after_command(alloc, core, k, command)?;
+        core = next;
+        let octets = print_answer(alloc, core.net(), k, command, &answer)?;
+        texts.push_str(&String::from_utf8(octets)?)?;
+        k = k.wrapping_add(1);
+    }
+    Ok(texts)
+}
+
+#[test]
+fn commands_are_answered_one_by_one(rt: HostRuntime) -> Result<(), Fail> {
+    let alloc = rt.alloc();
+    for (case, devices, links, emulated, records, script, text) in ANSWERS {
+        let net = network(alloc, devices, links)?;
+        let recorded = recorded(alloc, net, emulated, records)?;
+        assert_eq!(rt; told(alloc, recorded, script)?.as_str(), *text, "{case}");
     }
     Ok(())
 }
