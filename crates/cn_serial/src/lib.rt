@@ -4,9 +4,9 @@
 //! another: `work N` applies the first event in the serial order again and again, until N events
 //! have happened or the state is quiet, and `pull` asks what the devices hold. `after_command` does
 //! one command, for whoever keeps no answer until the next. `specs/Serial.antt` has the play that
-//! comes of it and the answers, over the state and the events of `cn_core`; by `laws::one_answer` no
-//! script has two lists of answers. What is printed of a history or an answer is left to `cn_trace`
-//! and `cn_report`, and reading a script to `cn_readscript`.
+//! comes of it and the answers, over the state and the events of `cn_core`; by `laws::one_answer`
+//! no script has two lists of answers. What is printed of a history or an answer is left to
+//! `cn_trace` and `cn_report`, and reading a script to `cn_readscript`.
 #![tactic(auto)]
 
 pub mod laws;
