@@ -22,7 +22,7 @@ import tables
 ROOT = tables.HERE.parent
 EXAMPLES = ROOT / "examples"
 LONGEST = 600  # seconds that a run may take
-FEWEST_TABLES = 15  # cases with tables of whole networks, which fixpoint.py computes
+FEWEST_TABLES = 20  # cases with tables of whole networks, which fixpoint.py computes
 
 
 def examples():
