@@ -12,10 +12,10 @@ use Rattle.cn_outside.specs.declared.calls.CallKind.{CallKind}
 use Rattle.cn_outside.specs.declared.calls.CallKind.TheVariants.{Read, FailedRead, Write, FailedWrite}
 use Rattle.cn_outside.specs.declared.calls.Call.{Call}
 use Rattle.cn_outside.specs.declared.calls.Calls.{Calls}
-use Rattle.cn_outside.specs.Calls.{call_count, calls_of, is_call, same_kind, CountsRead}
+use Rattle.cn_outside.specs.Calls.{call_count, calls_of, is_call, same_kind, CountsRead, Moves}
 use Rattle.cn_outside.specs.declared.outside.ReadAnswer.{ReadAnswer}
 use Rattle.cn_outside.specs.declared.outside.ReadAnswer.TheVariants as reads
-use Rattle.cn_outside.specs.Shelf.{IsAnswered, ReadsHeld, RisesOnce, SameAtEach, untold}
+use Rattle.cn_outside.specs.Shelf.{ReadsHeld, RisesOnce, SameAtEach, untold}
 
 one_more : {X : Type 0} (p : X → Bool) (xs : List X) (x : X)
     → count_by p (xs ++ x ∷ []) ≡ count_by p xs + cond (p x) 1 0
@@ -81,6 +81,17 @@ noted call before after e =
       count = length_push before call;
     })
 
+-- each kind's count after a call is noted
+pub moves_of : (other kind : CallKind) (name : List ℕ) (before after : List Call)
+    → Noted kind name before after
+    → Moves (same_kind other kind) name (λ n. count_by (is_call other n) before)
+    (λ n. count_by (is_call other n) after)
+moves_of Read Read name before after h = h.own
+moves_of FailedRead FailedRead name before after h = h.own
+moves_of Write Write name before after h = h.own
+moves_of FailedWrite FailedWrite name before after h = h.own
+moves_of other kind name before after h = h.other_kinds other refl
+
 -- the count of a call whose place was taken first
 pub rises_from : (f g h : List ℕ → ℕ) (copy name : List ℕ) → SameAtEach f g → RisesOnce copy g h
     → copy ≡ name → RisesOnce name f h
@@ -94,53 +105,6 @@ rises_from f g h copy name same rises e =
 -- a count that was the same at two steps
 pub same_from : (f g h : List ℕ → ℕ) → SameAtEach f g → SameAtEach g h → SameAtEach f h
 same_from f g h first second n = second n ∙ first n
-
--- what one more call counts, in lists of calls
-pub record NotedIn (kind : CallKind) (name : List ℕ) (before now : Calls) : Type 0 where
-  pub own : RisesOnce name (calls_of kind before) (calls_of kind now)
-  pub other_kinds : (other : CallKind) → same_kind other kind ≡ false
-      → SameAtEach (calls_of other before) (calls_of other now)
-  pub count : call_count now ≡ call_count before + 1
-
--- an answered read is noted as one
-pub counts_answered : (name : List ℕ) (before now : Calls) (answer : Result (Vec ℕ) ReadAnswer)
-    → IsAnswered answer → NotedIn Read name before now → CountsRead name before now answer
-counts_answered name before now (Ok bytes) a h = record {
-  failed = λ f. cc;
-  unfailed = λ _. h.other_kinds FailedRead refl;
-  answered = λ _. h.own;
-  unanswered = λ no. absurd (no a);
-  writes = h.other_kinds Write refl;
-  write_faults = h.other_kinds FailedWrite refl;
-  made = λ _. h.count;
-  unmade = λ m. cc;
-}
-counts_answered name before now (Err reads.Failed) a h = absurd a
-counts_answered name before now (Err (reads.TooLong n)) a h = record {
-  failed = λ f. cc;
-  unfailed = λ _. h.other_kinds FailedRead refl;
-  answered = λ _. h.own;
-  unanswered = λ no. absurd (no a);
-  writes = h.other_kinds Write refl;
-  write_faults = h.other_kinds FailedWrite refl;
-  made = λ _. h.count;
-  unmade = λ m. cc;
-}
-counts_answered name before now (Err reads.Memory) a h = absurd a
-
--- a failed read is noted as one
-pub counts_failed : (name : List ℕ) (before now : Calls) → NotedIn FailedRead name before now
-    → CountsRead name before now (Err reads.Failed)
-counts_failed name before now h = record {
-  failed = λ _. h.own;
-  unfailed = λ no. absurd (no refl);
-  answered = λ a. absurd a;
-  unanswered = λ _. h.other_kinds Read refl;
-  writes = h.other_kinds Write refl;
-  write_faults = h.other_kinds FailedWrite refl;
-  made = λ _. h.count;
-  unmade = λ m. cc;
-}
 
 -- what a read counts, whose place was taken first
 pub read_counts : (copy name : List ℕ) (before placed now : Calls)

@@ -46,6 +46,21 @@ counted held calls = record {
 abbrev pub HasRoom : Calls → Type 0
 HasRoom calls = vec_len calls.made < vec_capacity calls.made
 
+-- a count rises by one at the name where the call is of its kind, and else it stays
+abbrev pub Moves : Bool → List ℕ → (List ℕ → ℕ) → (List ℕ → ℕ) → Type 0
+Moves true name before now = RisesOnce name before now
+Moves false name before now = SameAtEach before now
+
+-- One more call of that kind and name was made.
+pub record NotesCall (kind : CallKind) (name : List ℕ) (before now : Calls) : Type 0 where
+  pub reads : Moves (same_kind Read kind) name (calls_of Read before) (calls_of Read now)
+  pub read_faults : Moves (same_kind FailedRead kind) name (calls_of FailedRead before)
+      (calls_of FailedRead now)
+  pub writes : Moves (same_kind Write kind) name (calls_of Write before) (calls_of Write now)
+  pub write_faults : Moves (same_kind FailedWrite kind) name (calls_of FailedWrite before)
+      (calls_of FailedWrite now)
+  pub made : call_count now ≡ call_count before + 1
+
 -- Which counts rise by a read of that name that is answered so.
 pub record CountsRead (name : List ℕ) (before now : Calls) (answer : Result (Vec ℕ) ReadAnswer) :
     Type 0 where

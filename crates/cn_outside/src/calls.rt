@@ -1,6 +1,6 @@
 //! The list of the calls that a shelf keeps.
 
-ghost use Rattle.std.specs.Prelude.{◌≡◌, ◌+◌, ◌<◌, ℕ, List, IfOk, OnOk, false};
+ghost use Rattle.std.specs.Prelude.{◌≡◌, ◌+◌, ◌<◌, ℕ, List, IfOk, OnOk};
 ghost use Rattle.std.specs.String.{string_bytes};
 
 use crate::ReadAnswer;
@@ -30,8 +30,8 @@ pub struct Calls {
 }
 
 impl Calls {
-    ghost use Rattle.cn_outside.specs.Calls.{call_count, calls_of, same_kind, CountsRead, HasRoom};
-    ghost use Rattle.cn_outside.specs.Shelf.{RisesOnce, SameAtEach};
+    ghost use Rattle.cn_outside.specs.Calls.{call_count, calls_of, CountsRead, HasRoom, NotesCall};
+    ghost use Rattle.cn_outside.specs.Shelf.{SameAtEach};
     ghost use Rattle.cn_outside.specs.declared.calls.CallKind.{CallKind};
 
     /// No call was made yet.
@@ -69,11 +69,7 @@ impl Calls {
     /// Adds a call, at the place that `place` took.
     pub fn note(&mut self, kind: CallKind, name: String)
         requires { HasRoom self.old }
-        ensures own { RisesOnce (string_bytes name) (calls_of kind self.old)
-            (calls_of kind self.new) }
-        ensures other_kinds { (other : CallKind) → same_kind other kind ≡ false
-            → SameAtEach (calls_of other self.old) (calls_of other self.new) }
-        ensures count { call_count self.new ≡ call_count self.old + 1 }
+        ensures { NotesCall kind (string_bytes name) self.old self.new }
     {
         self.made.push(Call { kind, name }).unwrap();
     }
