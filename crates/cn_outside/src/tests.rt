@@ -1,7 +1,9 @@
 use super::*;
+use crate::loops::{read_all, write_through};
 use std::alloc::{AllocError, Global};
-use std::fs;
+use std::io::{ErrorKind, Read, Write};
 use std::test::Fail;
+use std::{fs, io};
 
 // How a read ended, in a word.
 fn read_word(answer: &Result<Vec<u8>, ReadAnswer>) -> &'static str {
@@ -125,6 +127,94 @@ fn limits_in_memory(rt: HostRuntime) -> Result<(), Fail> {
             .read(alloc, "a", 3)
             .is_ok_and(|b| b.as_slice() == b"one".as_slice())
     );
+    Ok(())
+}
+
+// Gives or takes one byte at a time, and is interrupted before each. It breaks off behind `room`
+// bytes, with an error.
+#[derive(Drop)]
+struct Halting {
+    bytes: Vec<u8>,
+    done: usize,
+    room: usize,
+    interrupted: bool,
+}
+
+impl Halting {
+    fn new(bytes: Vec<u8>, room: usize) -> Halting {
+        Halting {
+            bytes,
+            done: 0,
+            room,
+            interrupted: false,
+        }
+    }
+
+    // What comes before the next byte.
+    fn halt(&mut self) -> io::Result<()> {
+        self.interrupted = !self.interrupted;
+        if self.interrupted {
+            return Err(io::Error::from(ErrorKind::Interrupted));
+        }
+        if self.done >= self.room {
+            return Err(io::Error::from(ErrorKind::StorageFull));
+        }
+        Ok(())
+    }
+}
+
+impl Read for Halting {
+    fn read(&mut self, buf: &mut [u8]) -> io::Result<usize> {
+        self.halt()?;
+        match (self.bytes.get(self.done).copied(), buf.first_mut()) {
+            (Some(byte), Some(place)) => {
+                *place = byte;
+                self.done = self.done.saturating_add(1);
+                Ok(1)
+            }
+            _ => Ok(0),
+        }
+    }
+}
+
+impl Write for Halting {
+    fn write(&mut self, buf: &[u8]) -> io::Result<usize> {
+        self.halt()?;
+        match buf.first() {
+            Some(byte) => {
+                self.bytes.push(*byte)?;
+                self.done = self.done.saturating_add(1);
+                Ok(1)
+            }
+            None => Ok(0),
+        }
+    }
+
+    fn flush(&mut self) -> io::Result<()> {
+        Ok(())
+    }
+}
+
+// A reader and a writer that halt at each byte, and that break off.
+#[test]
+fn halting_readers_and_writers(rt: HostRuntime) -> Result<(), Fail> {
+    let alloc = rt.alloc();
+    let bytes = b"some bytes".to_vec(alloc)?;
+    let mut whole = Halting::new(bytes.clone()?, usize::MAX);
+    assert!(rt;
+        read_all(alloc, &mut whole, 10).is_ok_and(|b| b.as_slice() == b"some bytes".as_slice())
+    );
+    let mut broken = Halting::new(bytes.clone()?, 9);
+    assert_eq!(rt; read_word(&read_all(alloc, &mut broken, 10)), "failed");
+    let mut long = Halting::new(bytes, usize::MAX);
+    assert_eq!(rt; read_word(&read_all(alloc, &mut long, 9)), "too long");
+
+    let mut taking = Halting::new(Vec::new(alloc), usize::MAX);
+    assert!(rt; write_through(&mut taking, b"some bytes"));
+    assert_eq!(rt; taking.bytes.as_slice(), b"some bytes".as_slice());
+    let mut full = Halting::new(Vec::new(alloc), 4);
+    assert!(rt; !write_through(&mut full, b"some bytes"));
+    assert_eq!(rt; full.bytes.as_slice(), b"some".as_slice());
     Ok(())
 }
 
