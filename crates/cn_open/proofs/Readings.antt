@@ -20,7 +20,7 @@ use Rattle.cn_record.specs.Rows.{IsFirstRepeat}
 use Rattle.cn_record.specs.declared.saved.Row.{Row}
 use Rattle.cn_open.specs.Depth.{named}
 use Rattle.cn_open.specs.Emulation.{Chooses, ReadAs, Selects}
-use Rattle.cn_open.specs.Faults.{IsPlanFault, first_unknown, is_written, plan_names, row_names, selection_names}
+use Rattle.cn_open.specs.Faults.{IsKnown, IsPlanFault, first_unknown, is_written, plan_names, row_names, selection_names}
 use Rattle.cn_open.specs.Selection.{IsSelectionOf}
 use Rattle.cn_open.specs.declared.fault.PlanFault.TheVariants as fault
 use Rattle.cn_open.proofs.Names.{find_behind, find_front}
@@ -60,19 +60,20 @@ module _ (text : NetText) (net : Network) (drafted : draft_of net ≡ text.draft
           (names_behind ∙ e),
     )
 
-    -- two rows of one device and prefix
-    pub repeated_row : (rows : List Row) (d : DeviceId) (q : Cidr)
-        → first_unknown (draft_of net) (flat_map row_names text.rows) ≡ None
-        → ReadAs net text.rows rows → IsFirstRepeat rows d q
-        → IsPlanFault named text (fault.Repeat d q)
-    repeated_row rows d q recorded read first = (
-      (
-        no_fault,
-        subst (λ (x : Draft). first_unknown x (plan_names text) ≡ None) drafted
-            (names_behind ∙ recorded),
-      ),
-      (net, rows, drafted, valid, read, first),
+    -- all names are known
+    pub all_known : first_unknown (draft_of net) (flat_map row_names text.rows) ≡ None
+        → IsKnown text
+    all_known recorded = (
+      no_fault,
+      subst (λ (x : Draft). first_unknown x (plan_names text) ≡ None) drafted
+          (names_behind ∙ recorded),
     )
+
+  -- two rows of one device and prefix
+  pub repeated_row : (rows : List Row) (d : DeviceId) (q : Cidr) → IsKnown text
+      → ReadAs net text.rows rows → IsFirstRepeat rows d q
+      → IsPlanFault named text (fault.Repeat d q)
+  repeated_row rows d q known read first = (known, (net, rows, drafted, valid, read, first))
 
 -- ---- the devices that are selected are those that the plan chooses
 

@@ -4,8 +4,8 @@
 ghost use Rattle.std.specs.Prelude.{◌≡◌, ◌≤◌, IfErr, IfOk, None, OnOk, length};
 ghost use Rattle.cn_net.specs.Drafted.{draft_of};
 ghost use Rattle.cn_open.specs.Depth.{named};
-ghost use Rattle.cn_open.specs.Emulation.{plan_limit};
-ghost use Rattle.cn_open.specs.Faults.{first_unknown, selection_names};
+ghost use Rattle.cn_open.specs.Emulation.{ReadAs, plan_limit};
+ghost use Rattle.cn_open.specs.Faults.{IsKnown, first_unknown, selection_names};
 ghost use Rattle.cn_open.specs.Named.{AreRowsOf, IsNamed, IsNamedAs};
 ghost use Rattle.cn_open.specs.OpenFaults.{IsAnswerOf, IsOpenFault};
 ghost use Rattle.cn_open.specs.Selection.{IsSelectionOf, IsWithin};
@@ -18,7 +18,7 @@ use crate::text::plan_text;
 use cn_net::{Draft, Net, NetAnswer};
 use cn_plan::Selection;
 use cn_readnet::NetText;
-use cn_record::{Saved, SavedFault};
+use cn_record::{Row, Saved, SavedFault};
 use std::alloc::Global;
 
 /// A plan whose names are known: its network, the devices that it selects, its rows, and the draft
@@ -60,7 +60,23 @@ fn selected(alloc: Global, net: &Net, text: &NetText) -> Result<Selection, Stage
     }
 }
 
-/// The rows of a plan whose selection is known.
+/// The rows of a plan whose selection is known, with a device for each name.
+fn rows_named(alloc: Global, net: &Net, text: &NetText) -> Result<Vec<Row>, StageAnswer>
+    requires drafted { draft_of net.now ≡ text.now.draft }
+    requires known { first_unknown (draft_of net.now) (selection_names text.now.selection) ≡ None }
+    ensures rows { IfOk result (λ rows. ReadAs net.now text.now.rows rows.items) }
+    ensures known { OnOk result (IsKnown text.now) }
+    ensures fault { IfErr result (StopsAt text.now) }
+{
+    net.valid();
+    match rows_of(alloc, net, text.rows.items()) {
+        Ok(rows) => Ok(rows),
+        Err(NameAnswer::Unknown(name)) => Err(StageAnswer::Fault(PlanFault::Unknown(name))),
+        Err(NameAnswer::Memory) => Err(StageAnswer::Memory),
+    }
+}
+
+/// The rows of a plan whose selection is known, each once.
 fn recorded(alloc: Global, net: &Net, text: &NetText) -> Result<Saved, StageAnswer>
     requires drafted { draft_of net.now ≡ text.now.draft }
     requires known { first_unknown (draft_of net.now) (selection_names text.now.selection) ≡ None }
@@ -68,13 +84,7 @@ fn recorded(alloc: Global, net: &Net, text: &NetText) -> Result<Saved, StageAnsw
     ensures fault { IfErr result (StopsAt text.now) }
 {
     net.valid();
-    let rows = match rows_of(alloc, net, text.rows.items()) {
-        Ok(rows) => rows,
-        Err(NameAnswer::Unknown(name)) => {
-            return Err(StageAnswer::Fault(PlanFault::Unknown(name)));
-        }
-        Err(NameAnswer::Memory) => return Err(StageAnswer::Memory),
-    };
+    let rows = rows_named(alloc, net, text)?;
     match Saved::make(rows) {
         Ok(saved) => {
             // This tells what the type keeps.
