@@ -8,8 +8,8 @@ use Rattle.cn_net.specs.declared.fault.NetFault.TheVariants as net
 use Rattle.cn_net.specs.declared.fault.What.{What}
 use Rattle.cn_net.specs.declared.fault.What.TheVariants.{Devices, Links, Prefixes, Emulated, Rows}
 use Rattle.cn_text.specs.Printed.{newline, address, prefix_text}
-use Rattle.cn_top.specs.declared.fault.PlanFault.{PlanFault}
-use Rattle.cn_top.specs.declared.fault.PlanFault.TheVariants as plan
+use Rattle.cn_open.specs.declared.fault.PlanFault.{PlanFault}
+use Rattle.cn_open.specs.declared.fault.PlanFault.TheVariants as plan
 
 -- the name of a device of the draft, and its router id
 abbrev pub written_name : Draft → DeviceId → List ℕ

@@ -2,12 +2,12 @@
 
 ghost use Rattle.std.specs.Prelude.{◌≡◌, ◌++◌, IfOk, OnOk};
 ghost use Rattle.cn_net.specs.declared.fault.NetFault.TheVariants.{DuplicateId, DuplicateLink, DuplicateOwn, DuplicatePeer, SameAs};
-ghost use Rattle.cn_top.specs.declared.fault.PlanFault.TheVariants.{Repeat};
+ghost use Rattle.cn_open.specs.declared.fault.PlanFault.TheVariants.{Repeat};
 ghost use Rattle.cn_top.specs.FaultTexts.{bad_net_line, net_fault_text, plan_fault_text, too_many_text, unknown_text, what_word, written_id, written_name, written_pair};
 
-use crate::fault::PlanFault;
 use cn_base::{DeviceId, Name, Prefix};
 use cn_net::{Draft, NetFault, What};
+use cn_open::PlanFault;
 use cn_text::{put_address, put_number, put_prefix};
 use std::alloc::{AllocError, Global};
 

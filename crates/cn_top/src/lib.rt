@@ -1,27 +1,34 @@
 //! The calls that the program makes: `command` reads the words, does what they ask for and puts the
 //! answer.
 //!
-//! Its contract is where the program's promise stands: `specs/Plan.antt` and `specs/Serial.antt`
-//! have what is meant by the words and by what the named files hold, `specs/Ending.antt` how the
-//! call can end, and the clauses of `command` say of each status when it comes. What is meant is
-//! made as one value before anything is put (`plan.rt`, `serial.rt`), from the readers, checks and
-//! runs of the crates below.
+//! Its contract is where the program's promise stands. A command line is a form (`form.rt`,
+//! `specs/Form.antt`), which says which names are read and which are written. What is meant by a
+//! form and by what the named files hold is one value, a deed: a status, what is written, and the
+//! texts that are put (`specs/Meaning.antt`; `commands.rt` makes it, from the readers, checks and
+//! runs of the crates below). `deed.rt` carries it out, and `specs/Ending.antt` says how that can
+//! end. `specs/Outcome.antt` puts the two together, and the clauses of `command` say of each status
+//! when it comes, for any command; `laws.rt` says it of each command in its own words.
+//!
+//! A command is a form and its words, its two lists of names, a function in `commands.rt`, and an
+//! arm each in `IsRight`, `IsWrong`, `GoesOn` and `IsValidInput`.
 #![tactic(auto)]
 
-mod answer;
-mod fault;
+mod commands;
+mod deed;
 mod fault_texts;
 mod form;
-mod plan;
-mod rows;
-mod selection;
+mod islands;
+pub mod laws;
+mod read;
 mod serial;
 mod status;
+pub mod status_bad_net;
+pub mod status_done;
+pub mod status_refused;
+pub mod status_unbuilt;
 mod texts;
 mod top;
+mod wrong;
 
 pub use status::Status;
 pub use top::command;
-
-#[cfg(test)]
-mod tests;

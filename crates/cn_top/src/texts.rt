@@ -7,7 +7,7 @@ ghost use Rattle.cn_net.specs.Network.{name_of};
 ghost use Rattle.cn_plan.specs.Boundary.{of_certificate, of_record};
 ghost use Rattle.cn_top.specs.Texts.{usage_line, unbuilt_line, unread_line, counts_line, emulate_line, held_text, island_line, plan_text, refusal_text, refused_line, side_word, numbered, shared};
 
-use crate::selection::{island_labels, members_of};
+use crate::islands::{island_labels, members_of};
 use cn_base::{Asn, Choice, DeviceId, Prefix};
 use cn_cert::{Refusal, Side};
 use cn_net::{Certified, Net};

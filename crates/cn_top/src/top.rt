@@ -1,127 +1,29 @@
 //! The top call.
 
-ghost use Rattle.std.specs.Prelude.{◌≡◌, ◌≢◌, ◌≤◌, ◌⊎◌, ◌<◌, ◌++◌, ℕ, List, map, string_bytes, MatchResult, IsTrue};
-ghost use Rattle.std.specs.List.{concat};
-ghost use Rattle.cn_outside.specs.Shelf.{RisesOnlyAt, SameAtEach, SameBut};
-ghost use Rattle.cn_net.specs.Opening.{Opening};
-ghost use Rattle.cn_record.specs.Recorded.{RecordedOpening};
-ghost use Rattle.cn_change.specs.declared.command.Command.{Command};
-ghost use Rattle.cn_top.specs.declared.serial.Run.{Run as RunValue};
-ghost use Rattle.cn_plan.specs.Boundary.{BoundaryFault, IsFirstFault, IsSafe, IsSafeOpening, IsUnsafe};
-ghost use Rattle.cn_readnet.specs.declared.plan.NetText.{NetText};
-ghost use Rattle.cn_top.specs.Emulation.{Emulation, is_outside};
-ghost use Rattle.cn_top.specs.Faults.{IsPlanFault};
-ghost use Rattle.cn_top.specs.FaultTexts.{bad_net_line};
-ghost use Rattle.cn_top.specs.declared.fault.PlanFault.{PlanFault};
-ghost use Rattle.cn_top.specs.Ending.{Ends, EndsRun, KeepsNames, Outcome, PutsAll, RisesOnlyFor, WritesOnlyFor};
-ghost use Rattle.cn_top.specs.Form.{form_of, usage_form};
-ghost use Rattle.cn_top.specs.Outcome.{AsksForPlan, AsksForRun, HoldsTrace, IsUnbuilt, IsUnlessMemory, MeetsNoFault, Plans, Reads, ReadsName, WroteBadly};
-ghost use Rattle.cn_top.specs.Serial.{IsRunOf};
-ghost use Rattle.cn_top.specs.Texts.{plan_text, refused_line, unbuilt_line, unread_line, usage_line};
+ghost use Rattle.std.specs.Prelude.{◌≡◌, map, string_bytes};
+ghost use Rattle.cn_outside.specs.Scene.{scene};
+ghost use Rattle.cn_top.specs.Form.{asked, usage_form};
+ghost use Rattle.cn_top.specs.Meaning.{IsValidInput, IsWrong};
+ghost use Rattle.cn_top.specs.Outcome.{IsCalm, IsDone, IsMisused, IsRefusal, IsRefused, IsStarved, IsUnlessMemory, IsUnput, IsUnread, KeepsOthers, Outcome, Tells};
+ghost use Rattle.cn_top.specs.Wrong.{status_of};
+ghost use Rattle.cn_top.specs.declared.wrong.Wrong.{Wrong};
 
-use crate::answer::Answer;
-use crate::form::{Form, form_of};
-use crate::plan::plan_means;
-use crate::serial::{Meant, Run, serial_means};
+use crate::commands::means;
+use crate::deed::carry_out;
+use crate::form::form_of;
 use crate::status::Status;
-use crate::texts;
-use cn_base::Items;
-use cn_outside::{Out, Shelf, WriteAnswer};
-use std::alloc::{AllocError, Global};
+use cn_outside::{Out, Shelf};
+use std::alloc::Global;
 
-/// Puts the text by one put, and ends with the status.
-fn end<O: Out>(alloc: Global, out: &mut O, status: Status, text: &[u8]) -> Status
-    ensures ends { Ends O.tells (O.taken out.old) (O.taken out.new) (O.faults out.old)
-        (O.faults out.new) (record { status = status; text = text.now }) result }
-    ensures later { O.faults out.old ≤ O.faults out.new }
-{
-    match out.put(alloc, text) {
-        Ok(()) => status,
-        Err(WriteAnswer::Failed) => Status::WriteFault,
-        Err(WriteAnswer::Memory) => Status::NoMemory,
-    }
-}
-
-/// Puts what was meant, if memory sufficed for it.
-fn finish<O: Out>(alloc: Global, out: &mut O, means: Result<Answer, AllocError>) -> Status
-    ensures ends { MatchResult means (λ answer. Ends O.tells (O.taken out.old) (O.taken out.new)
-        (O.faults out.old) (O.faults out.new) answer result)
-        (λ _. (result ≡ Status.NoMemory) × (O.taken out.new ≡ O.taken out.old)) }
-    ensures later { O.faults out.old ≤ O.faults out.new }
-{
-    match means {
-        Ok(answer) => end(alloc, out, answer.status, answer.text.items()),
-        Err(_) => Status::NoMemory,
-    }
-}
-
-/// Puts the texts, each by one put, in their order.
-fn put_all<O: Out>(alloc: Global, out: &mut O, texts: &[Items<u8>]) -> Status
-    ensures puts { PutsAll O.tells (O.taken out.old) (O.taken out.new) (O.faults out.old)
-        (O.faults out.new) texts.now result }
-    ensures later { O.faults out.old ≤ O.faults out.new }
-{
-    for text in texts {
-        match out.put(alloc, text.items()) {
-            Ok(()) => {}
-            Err(WriteAnswer::Failed) => return Status::WriteFault,
-            Err(WriteAnswer::Memory) => return Status::NoMemory,
-        }
-    }
-    Status::Ok
-}
-
-/// Writes the trace of a run under its name, and then puts the answers.
-fn end_run<S: Shelf, O: Out>(
-    alloc: Global,
-    shelf: &mut S,
-    out: &mut O,
-    trace: &str,
-    run: &Run,
-) -> Status
-    ensures ends { EndsRun trace.now S.tells (S.held shelf.old) (S.held shelf.new)
-        (S.write_faults shelf.old) (S.write_faults shelf.new)
-        O.tells (O.taken out.old) (O.taken out.new) (O.faults out.old) (O.faults out.new) run.now
-        result }
-    ensures held { SameBut trace.now (S.held shelf.old) (S.held shelf.new) }
-    ensures reads { SameAtEach (S.read_faults shelf.old) (S.read_faults shelf.new) }
-    ensures writes { RisesOnlyAt trace.now (S.write_faults shelf.old) (S.write_faults shelf.new) }
-    ensures later { O.faults out.old ≤ O.faults out.new }
-{
-    match shelf.write(alloc, trace, run.trace.items()) {
-        Ok(()) => put_all(alloc, out, run.texts.items()),
-        Err(WriteAnswer::Failed) => Status::WriteFault,
-        Err(WriteAnswer::Memory) => Status::NoMemory,
-    }
-}
-
+/// All that the words ask for.
 fn run<S: Shelf, O: Out>(alloc: Global, words: &[String], shelf: &mut S, out: &mut O) -> Status
-    ensures answers { Outcome (form_of (map string_bytes words.now)) S.tells (S.held shelf.old)
-        (S.held shelf.new)
-        (S.read_faults shelf.old) (S.read_faults shelf.new) (S.write_faults shelf.old)
-        (S.write_faults shelf.new)
-        O.tells (O.taken out.old) (O.taken out.new) (O.faults out.old) (O.faults out.new) result }
-    ensures held { KeepsNames (form_of (map string_bytes words.now)) (S.held shelf.old)
-        (S.held shelf.new) }
-    ensures reads { RisesOnlyFor (form_of (map string_bytes words.now)) (S.read_faults shelf.old)
-        (S.read_faults shelf.new) }
-    ensures writes { WritesOnlyFor (form_of (map string_bytes words.now)) (S.write_faults shelf.old)
-        (S.write_faults shelf.new) }
-    ensures later { O.faults out.old ≤ O.faults out.new }
+    ensures { Outcome (asked (map string_bytes words.now))
+        (scene (S.files shelf.old) (O.printed out.old))
+        (scene (S.files shelf.new) (O.printed out.new)) result }
 {
-    match form_of(words) {
-        Form::Usage => end(alloc, out, Status::Usage, texts::usage_line()),
-        Form::Later(word) => finish(alloc, out, Answer::unbuilt(alloc, word)),
-        Form::Plan(file) => finish(alloc, out, plan_means(alloc, file, shelf)),
-        Form::Serial {
-            file,
-            script,
-            trace,
-        } => match serial_means(alloc, file, script, shelf) {
-            Ok(Meant::Line(answer)) => end(alloc, out, answer.status, answer.text.items()),
-            Ok(Meant::Run(run)) => end_run(alloc, shelf, out, trace, &run),
-            Err(_) => Status::NoMemory,
-        },
+    match means(alloc, shelf, form_of(words)) {
+        Ok(deed) => carry_out(alloc, shelf, out, &deed),
+        Err(_) => Status::NoMemory,
     }
 }
 
@@ -141,9 +43,10 @@ fn run<S: Shelf, O: Out>(alloc: Global, words: &[String], shelf: &mut S, out: &m
 /// device is a speaker; a `pull` that is answered again names what is first pending. Where the plan
 /// or the script can't be run, one line is put, and no file is touched.
 ///
-/// All reads come before all writes. Each "exactly where" of the clauses yields to want of memory
-/// (status 5, of which no clause says when it comes), and to statuses 3 and 4, which come only
-/// where a count of failed calls rose.
+/// All reads come before all writes, each file is read once, and no call that failed is tried
+/// again. Each "exactly where" of the clauses yields to want of memory (status 5, of which no clause
+/// says when it comes), and to statuses 3 and 4, which come only where a count of failed calls rose.
+/// What a name held is meant as far as the shelf tells it (`MayHold`).
 pub fn command<S: Shelf, O: Out>(
     alloc: Global,
     words: &[String],
@@ -152,122 +55,60 @@ pub fn command<S: Shelf, O: Out>(
 ) -> Status
     // All of it: what is meant by the words and by what the named files held when the call began,
     // and how the call ends: whole, or in part with 4 or 5.
-    ensures answers { Outcome (form_of (map string_bytes words.now)) S.tells (S.held shelf.old)
-        (S.held shelf.new)
-        (S.read_faults shelf.old) (S.read_faults shelf.new) (S.write_faults shelf.old)
-        (S.write_faults shelf.new)
-        O.tells (O.taken out.old) (O.taken out.new) (O.faults out.old) (O.faults out.new) result }
+    ensures outcome { Outcome (asked (map string_bytes words.now))
+        (scene (S.files shelf.old) (O.printed out.old))
+        (scene (S.files shelf.new) (O.printed out.new)) result }
+
+    // 0 comes exactly where the input is valid, and then what is meant is done whole. That it comes
+    // there is completeness.
+    ensures right { result ≡ Status.Ok → IsDone (asked (map string_bytes words.now))
+        (scene (S.files shelf.old) (O.printed out.old))
+        (scene (S.files shelf.new) (O.printed out.new)) }
+    ensures complete { IsValidInput (asked (map string_bytes words.now)) (S.files shelf.old).held
+        → Tells (asked (map string_bytes words.now)) (scene (S.files shelf.old) (O.printed out.old))
+        → IsCalm (asked (map string_bytes words.now))
+        (scene (S.files shelf.old) (O.printed out.old))
+        (scene (S.files shelf.new) (O.printed out.new))
+        → IsUnlessMemory result Status.Ok }
+
+    // The status of a refusal comes exactly where that is first wrong of which the status is, and
+    // its line is put.
+    ensures wrong { IsRefusal result → IsRefused (asked (map string_bytes words.now))
+        (scene (S.files shelf.old) (O.printed out.old))
+        (scene (S.files shelf.new) (O.printed out.new)) result }
+    ensures wrongly { (w : Wrong)
+        → IsWrong (asked (map string_bytes words.now)) (S.files shelf.old).held w
+        → Tells (asked (map string_bytes words.now)) (scene (S.files shelf.old) (O.printed out.old))
+        → IsCalm (asked (map string_bytes words.now))
+        (scene (S.files shelf.old) (O.printed out.old))
+        (scene (S.files shelf.new) (O.printed out.new))
+        → IsUnlessMemory result (status_of w) }
 
     // 2 comes exactly where the words are no listed form.
-    ensures usage { result ≡ Status.Usage → (form_of (map string_bytes words.now) ≡ usage_form)
-        × (IsTrue O.tells → O.taken out.new ≡ O.taken out.old ++ usage_line) }
-    ensures not_listed { form_of (map string_bytes words.now) ≡ usage_form
-        → MeetsNoFault (form_of (map string_bytes words.now)) (S.read_faults shelf.old)
-        (S.read_faults shelf.new) (S.write_faults shelf.old) (S.write_faults shelf.new)
-        (O.faults out.old) (O.faults out.new)
+    ensures usage { result ≡ Status.Usage → IsMisused (asked (map string_bytes words.now))
+        (scene (S.files shelf.old) (O.printed out.old))
+        (scene (S.files shelf.new) (O.printed out.new)) }
+    ensures misused { asked (map string_bytes words.now) ≡ usage_form
+        → IsCalm (asked (map string_bytes words.now))
+        (scene (S.files shelf.old) (O.printed out.old))
+        (scene (S.files shelf.new) (O.printed out.new))
         → IsUnlessMemory result Status.Usage }
 
-    // 3 comes only where the count of failed reads of a named file rose, and 4 only where the out's
-    // count rose or that of failed writes of the trace.
-    ensures read_fault { result ≡ Status.ReadFault
-        → (file : List ℕ) × ReadsName (form_of (map string_bytes words.now)) file
-        × (S.read_faults shelf.old file < S.read_faults shelf.new file)
-        × (IsTrue O.tells → O.taken out.new ≡ O.taken out.old ++ unread_line file) }
-    ensures write_fault { result ≡ Status.WriteFault → (O.faults out.old < O.faults out.new)
-        ⊎ WroteBadly (form_of (map string_bytes words.now)) (S.write_faults shelf.old)
-        (S.write_faults shelf.new) }
+    // 3, 4 and 5 with the counts, and what each leaves.
+    ensures unread { result ≡ Status.ReadFault → IsUnread (asked (map string_bytes words.now))
+        (scene (S.files shelf.old) (O.printed out.old))
+        (scene (S.files shelf.new) (O.printed out.new)) }
+    ensures unput { result ≡ Status.WriteFault → IsUnput (asked (map string_bytes words.now))
+        (scene (S.files shelf.old) (O.printed out.old))
+        (scene (S.files shelf.new) (O.printed out.new)) }
+    ensures starved { result ≡ Status.NoMemory → IsStarved (asked (map string_bytes words.now))
+        (scene (S.files shelf.old) (O.printed out.old))
+        (scene (S.files shelf.new) (O.printed out.new)) }
 
-    // 0 of a plan comes exactly where the file stands for a network with a safe boundary: it is
-    // certified, and the records of the outside devices are sound.
-    ensures ok { IsTrue S.tells → result ≡ Status.Ok
-        → AsksForPlan (form_of (map string_bytes words.now))
-        → (e : Emulation) × (o : Opening)
-        × Plans (form_of (map string_bytes words.now)) (S.held shelf.old) e
-        × IsSafe e.net (is_outside e) e.rows × IsSafeOpening e.net (is_outside e) e.rows o
-        × (IsTrue O.tells → O.taken out.new ≡ O.taken out.old ++ plan_text o) }
-    ensures planned { (e : Emulation) → IsTrue S.tells
-        → AsksForPlan (form_of (map string_bytes words.now))
-        → Plans (form_of (map string_bytes words.now)) (S.held shelf.old) e
-        → IsSafe e.net (is_outside e) e.rows
-        → MeetsNoFault (form_of (map string_bytes words.now)) (S.read_faults shelf.old)
-        (S.read_faults shelf.new) (S.write_faults shelf.old) (S.write_faults shelf.new)
-        (O.faults out.old) (O.faults out.new)
-        → IsUnlessMemory result Status.Ok }
-
-    // 0 of a run comes exactly where the files stand for one: an emulation behind a safe boundary,
-    // and a script. The trace is that of the serial play, and the answers are those to the
-    // commands: a pull shows the tables of the emulated devices in the one stable state of the
-    // whole network exactly where the state is quiet, and else names what is first pending
-    // (`IsPulled` of `cn_core`).
-    ensures ran { IsTrue S.tells → result ≡ Status.Ok
-        → AsksForPlan (form_of (map string_bytes words.now))
-        ⊎ ((r : RecordedOpening) × (commands : List Command) × (run : RunValue)
-        × AsksForRun (form_of (map string_bytes words.now)) (S.held shelf.old) r commands
-        × IsRunOf r commands run
-        × HoldsTrace (form_of (map string_bytes words.now)) (S.held shelf.new) run.trace
-        × (IsTrue O.tells → O.taken out.new ≡ O.taken out.old ++ concat run.texts)) }
-    ensures runs { (r : RecordedOpening) (commands : List Command) → IsTrue S.tells
-        → AsksForRun (form_of (map string_bytes words.now)) (S.held shelf.old) r commands
-        → MeetsNoFault (form_of (map string_bytes words.now)) (S.read_faults shelf.old)
-        (S.read_faults shelf.new) (S.write_faults shelf.old) (S.write_faults shelf.new)
-        (O.faults out.old) (O.faults out.new)
-        → IsUnlessMemory result Status.Ok }
-
-    // 1 comes exactly where the plan's file stands for a network whose boundary isn't safe, and
-    // what is first wrong with it is put.
-    ensures refused { IsTrue S.tells → result ≡ Status.Refused
-        → (e : Emulation) × (fault : BoundaryFault)
-        × Plans (form_of (map string_bytes words.now)) (S.held shelf.old) e
-        × IsUnsafe e.net (is_outside e) e.rows × IsFirstFault e.net (is_outside e) e.rows fault
-        × (IsTrue O.tells → O.taken out.new ≡ O.taken out.old ++ refused_line e.net fault) }
-    ensures unsafe_boundary { (e : Emulation) → IsTrue S.tells
-        → Plans (form_of (map string_bytes words.now)) (S.held shelf.old) e
-        → IsUnsafe e.net (is_outside e) e.rows
-        → MeetsNoFault (form_of (map string_bytes words.now)) (S.read_faults shelf.old)
-        (S.read_faults shelf.new) (S.write_faults shelf.old) (S.write_faults shelf.new)
-        (O.faults out.old) (O.faults out.new)
-        → IsUnlessMemory result Status.Refused }
-
-    // 7 comes exactly where a plan is read from the plan's file that stands for no emulation, and
-    // the first reason is put.
-    ensures bad_net { IsTrue S.tells → result ≡ Status.BadNet
-        → (text : NetText) × (fault : PlanFault)
-        × Reads (form_of (map string_bytes words.now)) (S.held shelf.old) text
-        × IsPlanFault text fault
-        × (IsTrue O.tells → O.taken out.new ≡ O.taken out.old ++ bad_net_line text.draft fault) }
-    ensures no_net { (text : NetText) (fault : PlanFault) → IsTrue S.tells
-        → Reads (form_of (map string_bytes words.now)) (S.held shelf.old) text
-        → IsPlanFault text fault
-        → MeetsNoFault (form_of (map string_bytes words.now)) (S.read_faults shelf.old)
-        (S.read_faults shelf.new) (S.write_faults shelf.old) (S.write_faults shelf.new)
-        (O.faults out.old) (O.faults out.new)
-        → IsUnlessMemory result Status.BadNet }
-
-    // 9 comes exactly where a command, or a form of plans or scripts, isn't built yet.
-    ensures unbuilt { IsTrue S.tells → result ≡ Status.Unbuilt
-        → (what : List ℕ) × IsUnbuilt (form_of (map string_bytes words.now)) (S.held shelf.old) what
-        × (IsTrue O.tells → O.taken out.new ≡ O.taken out.old ++ unbuilt_line what) }
-    ensures not_built { (what : List ℕ) → IsTrue S.tells
-        → IsUnbuilt (form_of (map string_bytes words.now)) (S.held shelf.old) what
-        → MeetsNoFault (form_of (map string_bytes words.now)) (S.read_faults shelf.old)
-        (S.read_faults shelf.new) (S.write_faults shelf.old) (S.write_faults shelf.new)
-        (O.faults out.old) (O.faults out.new)
-        → IsUnlessMemory result Status.Unbuilt }
-
-    // The other statuses are for commands that aren't built yet.
-    ensures never { (result ≢ Status.BadText) × (result ≢ Status.BadTrace) }
-
-    // All names but that of a run's trace hold what they held, and that too unless the status is 0,
-    // 4 or 5; and no count rises but those that may.
-    ensures held { KeepsNames (form_of (map string_bytes words.now)) (S.held shelf.old)
-        (S.held shelf.new) }
-    ensures refusing { result ≢ Status.Ok → result ≢ Status.WriteFault → result ≢ Status.NoMemory
-        → SameAtEach (S.held shelf.old) (S.held shelf.new) }
-    ensures reads { RisesOnlyFor (form_of (map string_bytes words.now)) (S.read_faults shelf.old)
-        (S.read_faults shelf.new) }
-    ensures writes { WritesOnlyFor (form_of (map string_bytes words.now)) (S.write_faults shelf.old)
-        (S.write_faults shelf.new) }
-    ensures later { O.faults out.old ≤ O.faults out.new }
+    // What a call leaves alone.
+    ensures others { KeepsOthers (asked (map string_bytes words.now))
+        (scene (S.files shelf.old) (O.printed out.old))
+        (scene (S.files shelf.new) (O.printed out.new)) }
 {
     run(alloc, words, shelf, out)
 }

@@ -1,0 +1,179 @@
+-- Right and wrong exclude each other, and each is one value.
+use Rattle.std.proofs.Common.{◌≡◌, inl, inr, ℕ, List, Ok, Result, refl, sym, ap, subst, ◌∙◌}
+use Rattle.cn_change.specs.declared.command.Command.{Command}
+use Rattle.cn_core.specs.declared.answer.Answer.{Answer}
+use Rattle.cn_open.specs.Depth.{sound}
+use Rattle.cn_open.specs.OpenFaults.{IsOpenFault}
+use Rattle.cn_open.specs.Opens.{IsSafePlan, Opens}
+use Rattle.cn_open.specs.declared.fault.OpenFault.{OpenFault}
+use Rattle.cn_open.proofs.OneOpening.{fault_once, opening_faultless, opening_once, opening_safe, safe_faultless}
+use Rattle.cn_outside.specs.Shelf.{Held, IsTold, MayHold, absent, holds, untold}
+use Rattle.cn_readscript.specs.Script.{script_of}
+use Rattle.cn_record.specs.Recorded.{RecordedOpening}
+use Rattle.cn_serial.proofs.OneAnswer.{EmulatesItsOwn, answers_once}
+use Rattle.cn_text.specs.declared.answer.TextAnswer.{TextAnswer}
+use Rattle.cn_top.specs.Deed.{Deed}
+use Rattle.cn_top.specs.Form.{Form, plan_form, serial_form, later_form, usage_form, reads_of}
+use Rattle.cn_top.specs.Meaning.{HoldsFault, HoldsNoScript, HoldsOpening, HoldsSafePlan, HoldsScript, IsRight, IsValidInput, IsWrong, IsWrongPlan, OneMeaning, Plans, Runs, TellsAll, plan_deed, run_deed}
+use Rattle.cn_top.specs.Serial.{IsRunOf, IsScript, answer_texts}
+use Rattle.cn_top.specs.declared.serial.Run.{Run}
+use Rattle.cn_top.specs.declared.wrong.Wrong.{Wrong}
+use Rattle.cn_top.specs.declared.wrong.Wrong.TheVariants as wrongs
+
+-- ---- one text of a name
+
+pub one_text : (held : Held) (a b : List ℕ) → IsTold held → MayHold held a → MayHold held b → a ≡ b
+one_text untold a b t x y = absurd t
+one_text absent a b t x y = absurd x
+one_text (holds bytes) a b t x y = x ∙ sym y
+
+-- ---- one run
+
+same_commands : (read : Result (List Command) TextAnswer) (x y : List Command) → read ≡ Ok x
+    → read ≡ Ok y → x ≡ y
+same_commands read x y p q = cc
+
+run_once : (r : RecordedOpening) (commands : List Command) (x y : Run) → EmulatesItsOwn r
+    → IsRunOf r commands x → IsRunOf r commands y → x ≡ y
+run_once r commands x y own h k =
+    let answers = answers_once r commands h.answers k.answers own h.answered k.answered in
+    let traces : x.trace ≡ y.trace = h.traced ∙ sym k.traced in
+    let texts : x.texts ≡ y.texts =
+    h.told ∙ ap (λ (xs : List Answer). answer_texts r.opening.net 1 commands xs) answers
+    ∙ sym k.told in
+    λ i. record { trace = traces i; texts = texts i }
+
+-- ---- one file
+
+module _ (held : Held) (told : IsTold held) where
+  opening_alone : (r s : RecordedOpening) → HoldsOpening held r → HoldsOpening held s → r ≡ s
+  opening_alone r s x y =
+      opening_once y.bytes r s
+      (subst (λ (b : List ℕ). Opens b r) (one_text held x.bytes y.bytes told x.holding y.holding)
+      x.opens) y.opens
+
+  fault_alone : (f g : OpenFault) → HoldsFault held f → HoldsFault held g → f ≡ g
+  fault_alone f g x y =
+      fault_once sound y.bytes f g
+      (subst (λ (b : List ℕ). IsOpenFault sound b f)
+      (one_text held x.bytes y.bytes told x.holding y.holding) x.faulty) y.faulty
+
+  no_opening : (r : RecordedOpening) (f : OpenFault) → HoldsOpening held r → HoldsFault held f → ⊥
+  no_opening r f x y =
+      opening_faultless y.bytes r f
+      (subst (λ (b : List ℕ). Opens b r) (one_text held x.bytes y.bytes told x.holding y.holding)
+      x.opens) y.faulty
+
+  no_safe_plan : (f : OpenFault) → HoldsSafePlan held → HoldsFault held f → ⊥
+  no_safe_plan f x y =
+      safe_faultless y.bytes f
+      (subst (λ (b : List ℕ). IsSafePlan b)
+      (one_text held x.bytes y.bytes told x.holding y.holding) x.safe) y.faulty
+
+  script_alone : (c d : List Command) → HoldsScript held c → HoldsScript held d → c ≡ d
+  script_alone c d x y =
+      same_commands (script_of y.bytes) c d
+      (ap script_of (sym (one_text held x.bytes y.bytes told x.holding y.holding)) ∙ x.script.read)
+      y.script.read
+
+  no_script : (c : List Command) → HoldsScript held c → HoldsNoScript held → ⊥
+  no_script c x y =
+      y.none c
+      (subst (λ (b : List ℕ). IsScript b c) (one_text held x.bytes y.bytes told x.holding y.holding)
+      x.script)
+
+  wrong_plan_once : (v w : Wrong) → IsWrongPlan held v → IsWrongPlan held w → v ≡ w
+  wrong_plan_once v w (f, x, p) (g, y, q) = p ∙ ap wrongs.Plan (fault_alone f g x y) ∙ sym q
+
+safe_plan : (held : Held) (r : RecordedOpening) → HoldsOpening held r → HoldsSafePlan held
+safe_plan held r o =
+    record { bytes = o.bytes; holding = o.holding; safe = opening_safe o.bytes r o.opens }
+
+-- ---- by form
+
+module _ (held : List ℕ → Held) where
+  module _ (file : List ℕ) (t : IsTold (held file)) where
+    plan_right : (d e : Deed) → Plans (held file) d → Plans (held file) e → d ≡ e
+    plan_right d e x y =
+        x.does
+        ∙ ap (λ (r : RecordedOpening). plan_deed r.opening)
+        (opening_alone (held file) t x.recorded y.recorded x.opening y.opening)
+        ∙ sym y.does
+
+    plan_meaning : OneMeaning (plan_form file) held
+    plan_meaning = record {
+      right_once = plan_right;
+      wrong_once = wrong_plan_once (held file) t;
+      not_both = λ d w x y. no_opening (held file) t x.recorded y.0 x.opening y.1;
+      valid_not_wrong = λ w x y. no_safe_plan (held file) t y.0 x y.1;
+    }
+
+  module _ (file script trace : List ℕ) (t : IsTold (held file)) (u : IsTold (held script)) where
+    run_right : (d e : Deed) → Runs (held file) (held script) trace d
+        → Runs (held file) (held script) trace e → d ≡ e
+    run_right d e x y =
+        let recorded = opening_alone (held file) t x.recorded y.recorded x.opening y.opening in
+        let commands = script_alone (held script) u x.commands y.commands x.scripted y.scripted in
+        let ran : IsRunOf y.recorded y.commands x.run =
+        subst (λ (r : RecordedOpening). IsRunOf r y.commands x.run) recorded
+        (subst (λ (c : List Command). IsRunOf x.recorded c x.run) commands x.ran) in
+        let (e, stands, opens) = y.opening.opens in
+        let own : EmulatesItsOwn y.recorded = opens.recorded.opening.devices in
+        x.does
+        ∙ ap (run_deed trace) (run_once y.recorded y.commands x.run y.run own ran y.ran)
+        ∙ sym y.does
+
+    run_wrong : (v w : Wrong) → IsWrong (serial_form file script trace) held v
+        → IsWrong (serial_form file script trace) held w → v ≡ w
+    run_wrong v w (inl x) (inl y) = wrong_plan_once (held file) t v w x y
+    run_wrong v w (inl (f, x, p)) (inr (r, y, n, q)) =
+        absurd (no_opening (held file) t r f y x)
+    run_wrong v w (inr (r, x, n, p)) (inl (f, y, q)) =
+        absurd (no_opening (held file) t r f x y)
+    run_wrong v w (inr (r, x, n, p)) (inr (s, y, m, q)) = p ∙ sym q
+
+    run_both : (d : Deed) (w : Wrong) → Runs (held file) (held script) trace d
+        → IsWrong (serial_form file script trace) held w → ⊥
+    run_both d w x (inl (f, y, q)) = no_opening (held file) t x.recorded f x.opening y
+    run_both d w x (inr (s, y, n, q)) = no_script (held script) u x.commands x.scripted n
+
+    run_valid : (w : Wrong) → IsValidInput (serial_form file script trace) held
+        → IsWrong (serial_form file script trace) held w → ⊥
+    run_valid w (safe, (c, x)) (inl (f, y, q)) = no_safe_plan (held file) t f safe y
+    run_valid w (safe, (c, x)) (inr (s, y, n, q)) = no_script (held script) u c x n
+
+    run_meaning : OneMeaning (serial_form file script trace) held
+    run_meaning = record {
+      right_once = run_right;
+      wrong_once = run_wrong;
+      not_both = run_both;
+      valid_not_wrong = run_valid;
+    }
+
+  -- an arm for each command
+  pub one_meaning_of : (form : Form) → TellsAll (reads_of form) held → OneMeaning form held
+  one_meaning_of (plan_form file) tells = plan_meaning file (tells file (inl refl))
+  one_meaning_of (serial_form file script trace) tells =
+      run_meaning file script trace (tells file (inl refl)) (tells script (inr (inl refl)))
+  one_meaning_of (later_form later) tells = record {
+    right_once = λ d e r s. absurd r;
+    wrong_once = λ v w r s. r ∙ sym s;
+    not_both = λ d w r s. r;
+    valid_not_wrong = λ w r s. r;
+  }
+  one_meaning_of usage_form tells = record {
+    right_once = λ d e r s. absurd r;
+    wrong_once = λ v w r s. absurd r;
+    not_both = λ d w r s. r;
+    valid_not_wrong = λ w r s. r;
+  }
+
+-- ---- what is right is valid
+
+pub right_valid : (held : List ℕ → Held) (form : Form) (d : Deed) → IsRight form held d
+    → IsValidInput form held
+right_valid held (plan_form file) d r = safe_plan (held file) r.recorded r.opening
+right_valid held (serial_form file script trace) d r =
+    (safe_plan (held file) r.recorded r.opening, (r.commands, r.scripted))
+right_valid held (later_form later) d r = absurd r
+right_valid held usage_form d r = absurd r
