@@ -107,6 +107,7 @@ same_text : (read : Result NetText TextAnswer) (x y : NetText) → read ≡ Ok x
     → x ≡ y
 same_text read x y p q = cc
 
+-- a plan describes one emulation
 pub same_emulation : (text : NetText) (x y : Emulation) → IsEmulationOf text x
     → IsEmulationOf text y → x ≡ y
 same_emulation text x y h k =
@@ -124,6 +125,7 @@ same_emulation text x y h k =
 pub one_text : (bytes : List ℕ) (x y : NetText) → ReadsPlan bytes x → ReadsPlan bytes y → x ≡ y
 one_text bytes x y h k = same_text (plan_of bytes) x y h.1 k.1
 
+-- a text stands for one emulation
 pub one_emulation : (bytes : List ℕ) (x y : Emulation) → StandsFor bytes x → StandsFor bytes y
     → x ≡ y
 one_emulation bytes x y (text, read, h) (text', read', k) =
@@ -202,12 +204,14 @@ described_once text e net rows d p h drafted valid read repeated =
     let one = read_as_one e.net h.valid.names text.rows rows e.rows read' h.recorded in
     h.once d p (subst (λ (xs : List Row). IsRepeated xs d p) one repeated)
 
+-- devices within the limits pass none
 limits_hold : (depth : Depth) (e : Emulation) (what : What) (count : ℕ)
     → IsWithinLimits e.net e.emulated → PassesLimitAt depth e what count → ⊥
 limits_hold named e what count limits passes = passes
 limits_hold sound e what count limits passes =
     within_passes_none e.net e.emulated what count limits passes
 
+-- a plan that describes an emulation within the limits has no fault, at whatever depth
 pub stands_faultless : (depth : Depth) (text : NetText) (e : Emulation) (fault : PlanFault)
     → PlanStandsFor text e → IsPlanFault depth text fault → ⊥
 stands_faultless depth text e (fault.Net f) (h, limits) is =

@@ -81,6 +81,7 @@ module _ (depth : Depth) (text : NetText) where
   not_repeated d p w m (known, (net, rows, drafted, valid, read, first)) (e, h, passes) =
       described_once text e net rows d p h drafted valid read first.repeated
 
+  -- a plan that is read has one fault
   pub plan_fault_one : (f g : PlanFault) → IsPlanFault depth text f → IsPlanFault depth text g
       → f ≡ g
   plan_fault_one (fault.Net f) (fault.Net g) h k = ap fault.Net (same_Some f g (sym h ∙ k))
@@ -115,6 +116,7 @@ module _ (depth : Depth) (text : NetText) where
 
 -- ---- depths
 
+-- a fault of its names is its fault at each depth
 pub plan_fault_deepens : (text : NetText) (f : PlanFault) → IsPlanFault named text f
     → IsPlanFault sound text f
 plan_fault_deepens text (fault.Net f) h = h

@@ -236,6 +236,7 @@ module _ (net : Network) (outside : DeviceId → Bool) (rows : List Row) where
       )
       (label, islands, certified_is_refused_nowhere net outside label r first.refusal)
 
+  -- the first fault of a boundary is one
   pub first_fault_one : (f g : BoundaryFault) → IsFirstFault net outside rows f
       → IsFirstFault net outside rows g → f ≡ g
   first_fault_one (of_certificate r) (of_certificate s) (x, hx, h) (y, hy, k) =
