@@ -7,7 +7,7 @@ import tempfile
 import time
 
 ROOT = pathlib.Path(__file__).resolve().parent.parent
-sys.dont_write_bytecode = True  # each folder beside the fixpoint is a case
+sys.dont_write_bytecode = True  # so no __pycache__ is left beside the tables of cases
 sys.path.insert(0, str(ROOT / "acceptance"))
 import fixpoint
 import plan as plans
