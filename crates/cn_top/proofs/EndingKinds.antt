@@ -7,7 +7,7 @@ use Rattle.cn_top.specs.Deed.{Deed}
 use Rattle.cn_top.specs.Ending.{IsWhole, IsUnwritten, whole, unwritten, unput, unbegun, starved}
 use Rattle.cn_top.specs.Form.{Among, Form, plan_form, serial_form, later_form, usage_form, read_at, reads_of, writes_of}
 use Rattle.cn_top.specs.Meaning.{IsRight, IsWrong}
-use Rattle.cn_top.specs.Outcome.{HasUnread, Intends, IsRefusal, IsStarved, IsUnput, Outcome, carried, forgot, misused, nothing_done, put_failed, right, some_put, unread, write_failed, wrong}
+use Rattle.cn_top.specs.Outcome.{HasUnread, Intends, IsRefusal, IsStarved, IsWriteFault, Outcome, carried, forgot, misused, nothing_done, put_failed, right, some_put, unread, write_failed, wrong}
 use Rattle.cn_top.specs.Reading.{HasRead}
 use Rattle.cn_top.specs.Wrong.{line_of, reads_until, status_of, unread_deed, usage_deed}
 use Rattle.cn_top.specs.declared.status.Status.{Status}
@@ -61,7 +61,7 @@ module _ (form : Form) (before after : Scene) (result : Status) where
         → result ≡ status.Usage → IsWhole before after usage_deed → Kind
     is_unread : (k : ℕ) → HasUnread form k before.files after.files
         → result ≡ status.ReadFault → IsWhole before after (unread_deed (read_at form k)) → Kind
-    is_unput : result ≡ status.WriteFault → IsUnput form before after → Kind
+    is_unput : result ≡ status.WriteFault → IsWriteFault form before after → Kind
     is_starved : result ≡ status.NoMemory → IsStarved form before after → Kind
 
   kind_whole : (deed : Deed) → Intends form before.files after.files deed → result ≡ deed.status
@@ -91,7 +91,7 @@ module _ (form : Form) (before after : Scene) (result : Status) where
 
   unput_write : (write : Option (List ℕ × List ℕ)) → WritesAmong (writes_of form) write
       → IsUnwritten write before.files after.files → after.printed ≡ before.printed
-      → IsUnput form before after
+      → IsWriteFault form before after
   unput_write None among w quiet = absurd w
   unput_write (Some (name, bytes)) among w quiet = write_failed name among w quiet
 

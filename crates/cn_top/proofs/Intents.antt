@@ -13,7 +13,7 @@ use Rattle.cn_top.specs.Form.{Form, plan_form, read_at, reads_of, serial_form}
 use Rattle.cn_top.specs.Meaning.{GoesOn, HoldsOpening, IsWrong, IsWrongPlan, plan_deed, run_deed}
 use Rattle.cn_top.specs.Outcome.{HasUnread, Intends, Outcome, ReadsSoFar, carried, misused, right, unread, wrong}
 use Rattle.cn_top.specs.Reading.{HasNotRead, HasRead, IsBadPlan, IsBadScript, MayHaveRead}
-use Rattle.cn_top.specs.Serial.{IsRunOf, IsScript}
+use Rattle.cn_top.specs.Serial.{IsRunOf, ReadsScript}
 use Rattle.cn_top.specs.Wrong.{line_of, reads_until, unread_deed}
 use Rattle.cn_top.specs.declared.deed.Deed as code
 use Rattle.cn_top.specs.declared.serial.Run.{Run}
@@ -103,7 +103,7 @@ module _ (file script trace : List ℕ) (before mid after : Files)
 
   -- the script is run
   pub intends_run : (commands : List Command) (run : Run) (d : Deed)
-      → (bytes : List ℕ) × MayHold (mid.held script) bytes × IsScript bytes commands
+      → (bytes : List ℕ) × MayHold (mid.held script) bytes × ReadsScript bytes commands
       → HasRead (script ∷ []) mid after → IsRunOf r commands run → d ≡ run_deed trace run
       → Intends run_form before after d
   intends_run commands run d (bytes, may, is) second ran e =

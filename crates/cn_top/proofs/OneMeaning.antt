@@ -15,7 +15,7 @@ use Rattle.cn_text.specs.declared.answer.TextAnswer.{TextAnswer}
 use Rattle.cn_top.specs.Deed.{Deed}
 use Rattle.cn_top.specs.Form.{Form, plan_form, serial_form, later_form, usage_form, reads_of}
 use Rattle.cn_top.specs.Meaning.{HoldsFault, HoldsNoScript, HoldsOpening, HoldsSafePlan, HoldsScript, IsRight, IsValidInput, IsWrong, IsWrongPlan, OneMeaning, Plans, Runs, TellsAll, plan_deed, run_deed}
-use Rattle.cn_top.specs.Serial.{IsRunOf, IsScript, answer_texts}
+use Rattle.cn_top.specs.Serial.{IsRunOf, ReadsScript, answer_texts}
 use Rattle.cn_top.specs.declared.serial.Run.{Run}
 use Rattle.cn_top.specs.declared.wrong.Wrong.{Wrong}
 use Rattle.cn_top.specs.declared.wrong.Wrong.TheVariants as wrongs
@@ -79,8 +79,8 @@ module _ (held : Held) (told : IsTold held) where
   no_script : (c : List Command) → HoldsScript held c → HoldsNoScript held → ⊥
   no_script c x y =
       y.none c
-      (subst (λ (b : List ℕ). IsScript b c) (one_text held x.bytes y.bytes told x.holding y.holding)
-      x.script)
+      (subst (λ (b : List ℕ). ReadsScript b c)
+      (one_text held x.bytes y.bytes told x.holding y.holding) x.script)
 
   wrong_plan_once : (v w : Wrong) → IsWrongPlan held v → IsWrongPlan held w → v ≡ w
   wrong_plan_once v w (f, x, p) (g, y, q) = p ∙ ap wrongs.Plan (fault_alone f g x y) ∙ sym q

@@ -3,7 +3,7 @@ use Rattle.std.proofs.Common.{◌≡◌, inl, inr, ℕ, sym, ap, subst, ◌∙�
 use Rattle.cn_outside.specs.Scene.{Scene}
 use Rattle.cn_top.specs.Form.{Form, read_at, reads_of, usage_form}
 use Rattle.cn_top.specs.Meaning.{IsRight, IsValidInput, IsWrong, TellsAll}
-use Rattle.cn_top.specs.Outcome.{HasUnread, IsCalm, IsDone, IsMisused, IsRefusal, IsRefused, IsStarved, IsUnlessMemory, IsUnput, IsUnread, put_failed, write_failed}
+use Rattle.cn_top.specs.Outcome.{HasUnread, IsCalm, IsDone, IsMisused, IsRefusal, IsRefused, IsStarved, IsUnlessMemory, IsWriteFault, IsUnread, put_failed, write_failed}
 use Rattle.cn_top.specs.Wrong.{status_of}
 use Rattle.cn_top.specs.declared.status.Status.{Status}
 use Rattle.cn_top.specs.declared.status.Status.TheVariants as status
@@ -60,7 +60,7 @@ module _ (form : Form) (before after : Scene) (result : Status)
     | is_starved is r ↦ absurd cc
   ]
 
-  pub unput_where : result ≡ status.WriteFault → IsUnput form before after
+  pub unput_where : result ≡ status.WriteFault → IsWriteFault form before after
   unput_where e = elim kind [
     | is_done deed r read is w ↦ absurd cc
     | is_refused v r read is w ↦ absurd (not_refusal v status.WriteFault (λ x. x) (sym e ∙ is))
@@ -89,7 +89,7 @@ module _ (form : Form) (before after : Scene) (result : Status)
         let rises = has.failed.rises in
         omega (arith, rises, same)
 
-    pub calm_unput : IsUnput form before after → ⊥
+    pub calm_unput : IsWriteFault form before after → ⊥
     calm_unput (put_failed deed k i lt w p) = omega (arith, p.faults, calm.puts)
     calm_unput (write_failed name among w quiet) =
         omega (arith, w.faults.rises, calm.writes name among)

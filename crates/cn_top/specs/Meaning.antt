@@ -10,7 +10,7 @@ use Rattle.cn_outside.specs.Shelf.{Held, IsTold, MayHold}
 use Rattle.cn_record.specs.Recorded.{RecordedOpening}
 use Rattle.cn_top.specs.Deed.{Deed}
 use Rattle.cn_top.specs.Form.{Among, Form, plan_form, serial_form, later_form, usage_form}
-use Rattle.cn_top.specs.Serial.{IsNoScript, IsRunOf, IsScript}
+use Rattle.cn_top.specs.Serial.{ReadsNoScript, IsRunOf, ReadsScript}
 use Rattle.cn_top.specs.Texts.{plan_text}
 use Rattle.cn_top.specs.Wrong.{line}
 use Rattle.cn_top.specs.declared.serial.Run.{Run}
@@ -46,12 +46,12 @@ pub record HoldsFault (held : Held) (fault : OpenFault) : Type 0 where
 pub record HoldsScript (held : Held) (commands : List Command) : Type 0 where
   pub bytes : List ℕ
   pub holding : MayHold held bytes
-  pub script : IsScript bytes commands
+  pub script : ReadsScript bytes commands
 
 pub record HoldsNoScript (held : Held) : Type 0 where
   pub bytes : List ℕ
   pub holding : MayHold held bytes
-  pub none : IsNoScript bytes
+  pub none : ReadsNoScript bytes
 
 -- ---- all of them
 
@@ -112,8 +112,8 @@ pub record HoldsSafePlan (held : Held) : Type 0 where
   pub holding : MayHold held bytes
   pub safe : IsSafePlan bytes
 
--- Input is valid: the words are a listed form, and each file stands for what it must. That a call on
--- valid input ends with 0 is the completeness of the command.
+-- Input is valid: the words are a listed form, and each file stands for what it must. That a call
+-- on valid input ends with 0 is the completeness of the command.
 abbrev pub IsValidInput : Form → (List ℕ → Held) → Type 0
 IsValidInput (plan_form file) held = HoldsSafePlan (held file)
 IsValidInput (serial_form file script trace) held =

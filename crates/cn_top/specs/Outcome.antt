@@ -21,8 +21,8 @@ pub record HasUnread (form : Form) (k : ℕ) (before after : Files) : Type 0 whe
   pub failed : RisesOnce (read_at form k) before.read_faults after.read_faults
   pub good : GoesOn form k before.held
 
--- What is to be done after the reads. Each file that matters was read once, in the order of the
--- form, and no other: all of them where nothing is wrong, and those up to the one that is wrong.
+-- What is to be done after the reads. Each file that matters was read once, and no other: all of
+-- them where nothing is wrong, and those up to the one that is wrong.
 pub data Intends (form : Form) (before after : Files) (deed : Deed) : Type 0 where
   right : IsRight form before.held deed → HasRead (reads_of form) before after
       → Intends form before after deed
@@ -34,7 +34,7 @@ pub data Intends (form : Form) (before after : Files) (deed : Deed) : Type 0 whe
   unread : (k : ℕ) → HasUnread form k before after → deed ≡ unread_deed (read_at form k)
       → Intends form before after deed
 
--- some files were read, once each and in their order, or a read of the next failed too
+-- the first files were read, once each; or a read of the next failed behind that
 abbrev pub ReadsSoFar : Form → Files → Files → Type 0
 ReadsSoFar form before after =
     ((k : ℕ) × HasRead (take k (reads_of form)) before after)
@@ -107,13 +107,13 @@ pub record IsUnread (form : Form) (before after : Scene) : Type 0 where
   pub whole : IsWhole before after (unread_deed (read_at form place))
 
 -- 4: a put failed, after the write and the first k texts; or the write failed, and nothing was put
-pub data IsUnput (form : Form) (before after : Scene) : Type 0 where
+pub data IsWriteFault (form : Form) (before after : Scene) : Type 0 where
   put_failed : (deed : Deed) (k : ℕ) → Intends form before.files after.files deed
       → k < length deed.puts → IsWritten deed.write before.files after.files
-      → PutsPart k deed.puts before.printed after.printed → IsUnput form before after
+      → PutsPart k deed.puts before.printed after.printed → IsWriteFault form before after
   write_failed : (name : List ℕ) → Among (writes_of form) name
       → HasFailed name before.files after.files → after.printed ≡ before.printed
-      → IsUnput form before after
+      → IsWriteFault form before after
 
 -- 5: memory ran out before the write was done, and nothing was put; or after it and the first k
 -- texts

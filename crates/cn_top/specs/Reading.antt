@@ -6,17 +6,17 @@ use Rattle.cn_open.specs.declared.fault.OpenFault.{OpenFault}
 use Rattle.cn_outside.specs.Shelf.{Files, MayHold, RisesOnce, SameAtEach}
 use Rattle.cn_top.specs.declared.read.FileRead.{FileRead}
 use Rattle.cn_top.specs.declared.read.FileRead.TheVariants as read
-use Rattle.cn_top.specs.Serial.{IsNoScript}
+use Rattle.cn_top.specs.Serial.{ReadsNoScript}
 use Rattle.cn_top.specs.declared.wrong.Wrong.{Wrong}
 use Rattle.cn_top.specs.declared.wrong.Wrong.TheVariants as wrongs
 
--- the counts of these names rise by one each, one after another
+-- the counts of these names rise by one each: that of a name that is there twice by two
 abbrev pub RisesEach : List (List ℕ) → (List ℕ → ℕ) → (List ℕ → ℕ) → Type 0
 RisesEach [] before now = SameAtEach before now
 RisesEach (name ∷ names) before now =
     (mid : List ℕ → ℕ) × RisesOnce name before mid × RisesEach names mid now
 
--- each of these names was read once, in their order, and no read failed
+-- each of these names was read once, one that is there twice was read twice, and no read failed
 pub record HasRead (names : List (List ℕ)) (before after : Files) : Type 0 where
   pub reads : RisesEach names before.reads after.reads
   pub faults : SameAtEach before.read_faults after.read_faults
@@ -32,7 +32,7 @@ IsBadPlan bytes w = (fault : OpenFault) × IsOpenFault sound bytes fault × (w �
 
 -- no script is read from the text
 abbrev pub IsBadScript : List ℕ → Wrong → Type 0
-IsBadScript bytes w = IsNoScript bytes × (w ≡ wrongs.NoScript)
+IsBadScript bytes w = ReadsNoScript bytes × (w ≡ wrongs.NoScript)
 
 -- What the read of one file gives: what its bytes stand for, or what is wrong with them; or the
 -- read failed.

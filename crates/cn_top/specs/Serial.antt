@@ -18,12 +18,12 @@ abbrev pub script_limit : ℕ
 script_limit = 16777216
 
 -- the text is short enough, and these commands are read from it
-pub record IsScript (bytes : List ℕ) (commands : List Command) : Type 0 where
+pub record ReadsScript (bytes : List ℕ) (commands : List Command) : Type 0 where
   pub short : length bytes ≤ script_limit
   pub read : script_of bytes ≡ Ok commands
 
-abbrev pub IsNoScript : List ℕ → Type 0
-IsNoScript bytes = (commands : List Command) → IsScript bytes commands → ⊥
+abbrev pub ReadsNoScript : List ℕ → Type 0
+ReadsNoScript bytes = (commands : List Command) → ReadsScript bytes commands → ⊥
 
 -- ---- runs
 

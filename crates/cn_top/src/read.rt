@@ -4,7 +4,7 @@ ghost use Rattle.std.specs.Prelude.{IfOk, OnErr};
 ghost use Rattle.cn_open.specs.Opens.{Opens};
 ghost use Rattle.cn_top.specs.Ending.{KeepsNames};
 ghost use Rattle.cn_top.specs.Reading.{IsBadPlan, IsBadScript, MayHaveRead, ReadsFile};
-ghost use Rattle.cn_top.specs.Serial.{IsScript};
+ghost use Rattle.cn_top.specs.Serial.{ReadsScript};
 
 use crate::wrong::Wrong;
 use cn_change::Script;
@@ -58,7 +58,7 @@ pub fn script_under<S: Shelf>(
     file: &str,
 ) -> Result<FileRead<Script>, AllocError>
     ensures read { IfOk result
-        (ReadsFile IsScript IsBadScript file.now (S.files shelf.old) (S.files shelf.new)) }
+        (ReadsFile ReadsScript IsBadScript file.now (S.files shelf.old) (S.files shelf.new)) }
     ensures starved { OnErr result
         (MayHaveRead file.now (S.files shelf.old) (S.files shelf.new)) }
     ensures keeps { KeepsNames (S.files shelf.old) (S.files shelf.new) }

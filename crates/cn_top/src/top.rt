@@ -4,7 +4,7 @@ ghost use Rattle.std.specs.Prelude.{◌≡◌, map, string_bytes};
 ghost use Rattle.cn_outside.specs.Scene.{scene};
 ghost use Rattle.cn_top.specs.Form.{asked, usage_form};
 ghost use Rattle.cn_top.specs.Meaning.{IsValidInput, IsWrong};
-ghost use Rattle.cn_top.specs.Outcome.{IsCalm, IsDone, IsMisused, IsRefusal, IsRefused, IsStarved, IsUnlessMemory, IsUnput, IsUnread, KeepsOthers, Outcome, Tells};
+ghost use Rattle.cn_top.specs.Outcome.{IsCalm, IsDone, IsMisused, IsRefusal, IsRefused, IsStarved, IsUnlessMemory, IsWriteFault, IsUnread, KeepsOthers, Outcome, Tells};
 ghost use Rattle.cn_top.specs.Wrong.{status_of};
 ghost use Rattle.cn_top.specs.declared.wrong.Wrong.{Wrong};
 
@@ -43,10 +43,11 @@ fn run<S: Shelf, O: Out>(alloc: Global, words: &[String], shelf: &mut S, out: &m
 /// device is a speaker; a `pull` that is answered again names what is first pending. Where the plan
 /// or the script can't be run, one line is put, and no file is touched.
 ///
-/// All reads come before all writes, each file is read once, and no call that failed is tried
-/// again. Each "exactly where" of the clauses yields to want of memory (status 5, of which no clause
-/// says when it comes), and to statuses 3 and 4, which come only where a count of failed calls rose.
-/// What a name held is meant as far as the shelf tells it (`MayHold`).
+/// All reads come before all writes. A name is read once for each place that it has among the files
+/// of the command, the script only where the plan opens an emulation, and no call that failed is
+/// made again. Each "exactly where" of the clauses yields to want of memory (status 5, of which no
+/// clause says when it comes), and to statuses 3 and 4, which come only where a count of failed
+/// calls rose. What a name held is meant as far as the shelf tells it (`MayHold`).
 pub fn command<S: Shelf, O: Out>(
     alloc: Global,
     words: &[String],
@@ -98,7 +99,7 @@ pub fn command<S: Shelf, O: Out>(
     ensures unread { result ≡ Status.ReadFault → IsUnread (asked (map string_bytes words.now))
         (scene (S.files shelf.old) (O.printed out.old))
         (scene (S.files shelf.new) (O.printed out.new)) }
-    ensures unput { result ≡ Status.WriteFault → IsUnput (asked (map string_bytes words.now))
+    ensures unput { result ≡ Status.WriteFault → IsWriteFault (asked (map string_bytes words.now))
         (scene (S.files shelf.old) (O.printed out.old))
         (scene (S.files shelf.new) (O.printed out.new)) }
     ensures starved { result ≡ Status.NoMemory → IsStarved (asked (map string_bytes words.now))

@@ -54,8 +54,8 @@ returns-in_err-run-in-Good-2-clause-reads g c =
       2,
       both_read c.args.file.now c.args.script.now c.args.trace.now
           (g.S.Shelf.files c.args.shelf.now) (g.S.Shelf.files c.read_plan.new.shelf)
-          (g.S.Shelf.files c.script_under.new.shelf) c.in-Good.recorded c.read_plan.ensures.keeps plan.0
-          plan.1 read.1,
+          (g.S.Shelf.files c.script_under.new.shelf)
+          c.in-Good.recorded c.read_plan.ensures.keeps plan.0 plan.1 read.1,
     )
 
 pub returns-in_ok-run-in-Good-2-clause-intends : goal.returns-in_ok-run-in-Good-2-clause-intends
@@ -76,8 +76,8 @@ returns-in_ok-run-in-Good-2-clause-reads g c =
       2,
       both_read c.args.file.now c.args.script.now c.args.trace.now
           (g.S.Shelf.files c.args.shelf.now) (g.S.Shelf.files c.read_plan.new.shelf)
-          (g.S.Shelf.files c.script_under.new.shelf) c.in-Good.recorded c.read_plan.ensures.keeps plan.0
-          plan.1 read.1,
+          (g.S.Shelf.files c.script_under.new.shelf)
+          c.in-Good.recorded c.read_plan.ensures.keeps plan.0 plan.1 read.1,
     )
 
 pub returns-in-Bad-2-clause-intends : goal.returns-in-Bad-2-clause-intends
@@ -104,8 +104,8 @@ returns-in-Bad-2-clause-reads g c =
       2,
       both_read c.args.file.now c.args.script.now c.args.trace.now
           (g.S.Shelf.files c.args.shelf.now) (g.S.Shelf.files c.read_plan.new.shelf)
-          (g.S.Shelf.files c.script_under.new.shelf) c.in-Good.recorded c.read_plan.ensures.keeps plan.0
-          plan.1 read.1,
+          (g.S.Shelf.files c.script_under.new.shelf)
+          c.in-Good.recorded c.read_plan.ensures.keeps plan.0 plan.1 read.1,
     )
 
 pub returns-in-Unread-2-clause-intends : goal.returns-in-Unread-2-clause-intends
@@ -129,6 +129,6 @@ returns-in-Unread-2-clause-reads g c =
       1,
       unread_second c.args.file.now c.args.script.now c.args.trace.now
           (g.S.Shelf.files c.args.shelf.now) (g.S.Shelf.files c.read_plan.new.shelf)
-          (g.S.Shelf.files c.script_under.new.shelf) c.in-Good.recorded c.read_plan.ensures.keeps plan.0
-          plan.1 read,
+          (g.S.Shelf.files c.script_under.new.shelf)
+          c.in-Good.recorded c.read_plan.ensures.keeps plan.0 plan.1 read,
     )
