@@ -8,6 +8,12 @@
 //! into text. The other modules have a table of named cases each, with the text that is expected;
 //! an assertion that fails prints the name of its case.
 //!
+//! The top call is made by `commands`, over a shelf and an out that tell what they hold, for the
+//! cases of `planning`, `running` and `failing`; `command_texts` has the texts of their files. Each
+//! of these cases says too how many reads, writes and puts are made, so that none is made again and
+//! none comes after one that failed. The statuses 0, 1, 2, 7 and 9 are each wanted somewhere, with
+//! ample memory, so no body that always wants memory or meets a fault passes.
+//!
 //! The expected texts come from the definitions, the RFCs and the program's other description, its
 //! acceptance cases; none is copied from an answer of the code.
 #![tactic(auto)]
@@ -19,11 +25,17 @@ mod build;
 #[cfg(test)]
 mod changes;
 #[cfg(test)]
+mod command_texts;
+#[cfg(test)]
+mod commands;
+#[cfg(test)]
 mod decisions;
 #[cfg(test)]
 mod events;
 #[cfg(test)]
 mod exchange;
+#[cfg(test)]
+mod failing;
 #[cfg(test)]
 mod faults;
 #[cfg(test)]
@@ -35,17 +47,23 @@ mod lookups;
 #[cfg(test)]
 mod nets;
 #[cfg(test)]
+mod opened;
+#[cfg(test)]
 mod opening;
 #[cfg(test)]
 mod packing;
 #[cfg(test)]
 mod peers;
 #[cfg(test)]
+mod planning;
+#[cfg(test)]
 mod plans;
 #[cfg(test)]
 mod policies;
 #[cfg(test)]
 mod records;
+#[cfg(test)]
+mod running;
 #[cfg(test)]
 mod scripts;
 #[cfg(test)]

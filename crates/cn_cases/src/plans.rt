@@ -9,7 +9,7 @@ use crate::nets::{FIVE, FIVE_LINKS, L1, L2, S1, T1, T2};
 use crate::opening::{RecordRow, devices, rows};
 use crate::words;
 use cn_net::{LinkDraft, Net};
-use cn_plan::{Plan, PlanAnswer, Selection, plan};
+use cn_plan::{PlanAnswer, Selection, plan};
 use cn_record::Saved;
 use std::alloc::Global;
 use std::test::Fail;
@@ -110,15 +110,6 @@ fn selection(alloc: Global, net: &Net, text: &str) -> Result<Selection, Fail>
     }
 }
 
-fn planned(alloc: Global, plan: &Plan) -> Result<String, Fail> {
-    let opening = plan.recorded.certified();
-    let net = opening.net();
-    let emulated = words::names(alloc, net, opening.emulated().items())?;
-    let labels = words::labels(alloc, net, opening.labels())?;
-    let rows = plan.recorded.rows().len();
-    Ok(format!(in alloc; "emulated {emulated} islands {labels} rows {rows}")?)
-}
-
 fn unplanned(alloc: Global, answer: &PlanAnswer) -> Result<String, Fail> {
     match answer {
         PlanAnswer::TooMany { what, count } => Ok(format!(in alloc; "too many {what:?} {count}")?),
@@ -138,7 +129,7 @@ fn answer(alloc: Global, net: Net, text: &str, records: &[RecordRow]) -> Result<
     let selection = selection(alloc, &net, text)?;
     let saved = Saved::make(rows(alloc, &net, records)?)?;
     match plan(alloc, net, selection, saved) {
-        Ok(plan) => planned(alloc, &plan),
+        Ok(plan) => words::recorded(alloc, &plan.recorded),
         Err(answer) => unplanned(alloc, &answer),
     }
 }

@@ -3,6 +3,7 @@
 use cn_base::{Choice, DeviceId, Prefix};
 use cn_cert::Refusal;
 use cn_net::{Labels, Net};
+use cn_record::Recorded;
 use cn_report::put_choice;
 use cn_text::put_prefix;
 use std::alloc::Global;
@@ -96,4 +97,14 @@ pub fn unsound(
     let held = choice(alloc, net, held.as_ref())?;
     let wanted = choice(alloc, net, wanted.as_ref())?;
     Ok(format!(in alloc; "{name} {about}: held {held} wanted {wanted}")?)
+}
+
+/// The emulated devices, the labels of all, and how many rows are recorded.
+pub fn recorded(alloc: Global, recorded: &Recorded) -> Result<String, Fail> {
+    let opening = recorded.certified();
+    let net = opening.net();
+    let emulated = names(alloc, net, opening.emulated().items())?;
+    let labels = labels(alloc, net, opening.labels())?;
+    let rows = recorded.rows().len();
+    Ok(format!(in alloc; "emulated {emulated} islands {labels} rows {rows}")?)
 }
