@@ -10,11 +10,12 @@ use Rattle.cn_outside.specs.Shelf.{Held, IsTold}
 use Rattle.cn_record.specs.Recorded.{RecordedOpening}
 use Rattle.cn_top.specs.Deed.{Deed}
 use Rattle.cn_top.specs.Ending.{IsWhole}
-use Rattle.cn_top.specs.Form.{Form, plan_form, serial_form, later_form, usage_form}
-use Rattle.cn_top.specs.Meaning.{HoldsFault, HoldsOpening, IsRight, IsWrong}
+use Rattle.cn_top.specs.Form.{Form, plan_form, serial_form, later_form, usage_form, read_at}
+use Rattle.cn_top.specs.Meaning.{HoldsFault, HoldsNoScript, HoldsOpening, IsRight, IsWrong}
 use Rattle.cn_top.specs.Outcome.{IsCalm, IsRefusal, IsRefused, IsUnlessMemory, Outcome, Tells}
 use Rattle.cn_top.specs.Statuses.{HoldsUnsafePlan, IsBoundaryRefused, IsNoEmulation, IsNotBuilt, IsPlanPut, IsScriptRun, OpensPlan, no_command, no_plan, no_script, plan_held}
 use Rattle.cn_top.specs.Wrong.{line_of, opening_status, status_of}
+use Rattle.cn_top.specs.declared.form.Later.{Later}
 use Rattle.cn_top.specs.declared.status.Status.{Status}
 use Rattle.cn_top.specs.declared.status.Status.TheVariants as status
 use Rattle.cn_top.specs.declared.wrong.Wrong.{Wrong}
@@ -76,48 +77,25 @@ module _ (form : Form) (before after : Scene) where
   plan_line (Refused net refusal) w has e s whole = absurd cc
   plan_line (Unsound net d p held wanted) w has e s whole = absurd cc
 
--- ---- by form
+-- ---- an arm for each command
 
-boundary_of : (form : Form) (before after : Scene) (w : Wrong) → IsWrong form before.files.held w
-    → status_of w ≡ status.Refused → IsWhole before after (line_of w)
-    → IsBoundaryRefused form before after
-boundary_of (plan_form file) before after w (f, has, e) s whole =
-    boundary_line (plan_form file) before after f w has e s whole
-boundary_of (serial_form file script trace) before after w (inl (f, has, e)) s whole =
-    boundary_line (serial_form file script trace) before after f w has e s whole
-boundary_of (serial_form file script trace) before after w (inr (r, o, n, e)) s whole =
-    let is : status.Unbuilt ≡ status.Refused = sym (ap status_of e) ∙ s in absurd cc
-boundary_of (later_form later) before after w e s whole =
-    let is : status.Unbuilt ≡ status.Refused = sym (ap status_of e) ∙ s in absurd cc
-boundary_of usage_form before after w is s whole = absurd is
+-- what is wrong: the plan, or the script behind a plan that opens; or the command isn't built
+data IsWrongOf (form : Form) (before : Scene) (w : Wrong) : Type 0 where
+  of_plan : (f : OpenFault) → HoldsFault (plan_held form before) f → w ≡ wrongs.Plan f
+      → IsWrongOf form before w
+  of_script : (r : RecordedOpening) → HoldsOpening (plan_held form before) r
+      → HoldsNoScript (before.files.held (read_at form 1)) → w ≡ wrongs.NoScript
+      → IsWrongOf form before w
+  of_command : (later : Later) → form ≡ later_form later → w ≡ wrongs.Later later
+      → IsWrongOf form before w
 
-net_of : (form : Form) (before after : Scene) (w : Wrong) → IsWrong form before.files.held w
-    → status_of w ≡ status.BadNet → IsWhole before after (line_of w)
-    → IsNoEmulation form before after
-net_of (plan_form file) before after w (f, has, e) s whole =
-    net_line (plan_form file) before after f w has e (sym (ap status_of e) ∙ s) whole
-net_of (serial_form file script trace) before after w (inl (f, has, e)) s whole =
-    net_line (serial_form file script trace) before after f w has e (sym (ap status_of e) ∙ s)
-    whole
-net_of (serial_form file script trace) before after w (inr (r, o, n, e)) s whole =
-    let is : status.Unbuilt ≡ status.BadNet = sym (ap status_of e) ∙ s in absurd cc
-net_of (later_form later) before after w e s whole =
-    let is : status.Unbuilt ≡ status.BadNet = sym (ap status_of e) ∙ s in absurd cc
-net_of usage_form before after w is s whole = absurd is
-
-not_built_of : (form : Form) (before after : Scene) (w : Wrong) → IsWrong form before.files.held w
-    → status_of w ≡ status.Unbuilt → IsWhole before after (line_of w)
-    → IsNotBuilt form before after
-not_built_of (plan_form file) before after w (f, has, e) s whole =
-    plan_line (plan_form file) before after f w has e (sym (ap status_of e) ∙ s) whole
-not_built_of (serial_form file script trace) before after w (inl (f, has, e)) s whole =
-    plan_line (serial_form file script trace) before after f w has e (sym (ap status_of e) ∙ s)
-    whole
-not_built_of (serial_form file script trace) before after w (inr (r, o, n, e)) s whole =
-    no_script n (subst (λ (x : Wrong). IsWhole before after (line_of x)) e whole)
-not_built_of (later_form later) before after w e s whole =
-    no_command later refl (subst (λ (x : Wrong). IsWhole before after (line_of x)) e whole)
-not_built_of usage_form before after w is s whole = absurd is
+wrong_of : (form : Form) (before : Scene) (w : Wrong) → IsWrong form before.files.held w
+    → IsWrongOf form before w
+wrong_of (plan_form file) before w (f, has, e) = of_plan f has e
+wrong_of (serial_form file script trace) before w (inl (f, has, e)) = of_plan f has e
+wrong_of (serial_form file script trace) before w (inr (r, o, n, e)) = of_script r o n e
+wrong_of (later_form later) before w e = of_command later refl e
+wrong_of usage_form before w is = absurd is
 
 -- a plan with this fault is wrong
 plan_wrong : (form : Form) (before : Scene) (f : OpenFault) → OpensPlan form
@@ -143,28 +121,62 @@ module _ (held : Held) (told : IsTold held) (unsafe : HoldsUnsafePlan held) wher
       (one_text held unsafe.bytes has.bytes told unsafe.holding has.holding) unsafe.unsafe)
       has.faulty)
 
-unsafe_right : (form : Form) (before : Scene) (d : Deed) → Tells form before
-    → HoldsUnsafePlan (plan_held form before) → IsRight form before.files.held d → ⊥
-unsafe_right (plan_form file) before d tells unsafe r =
-    no_opening (before.files.held file) (tells file (inl refl)) unsafe r.recorded r.opening
-unsafe_right (serial_form file script trace) before d tells unsafe r =
-    no_opening (before.files.held file) (tells file (inl refl)) unsafe r.recorded r.opening
-unsafe_right (later_form later) before d tells unsafe r = r
-unsafe_right usage_form before d tells unsafe r = r
+-- the file of the plan is told
+plan_told : (form : Form) (before : Scene) → OpensPlan form → Tells form before
+    → IsTold (plan_held form before)
+plan_told (plan_form file) before opens tells = tells file (inl refl)
+plan_told (serial_form file script trace) before opens tells = tells file (inl refl)
+plan_told (later_form later) before opens tells = absurd opens
+plan_told usage_form before opens tells = absurd opens
 
-unsafe_wrong : (form : Form) (before : Scene) (w : Wrong) → OpensPlan form → Tells form before
-    → HoldsUnsafePlan (plan_held form before) → IsWrong form before.files.held w
-    → status_of w ≡ status.Refused
-unsafe_wrong (plan_form file) before w opens tells unsafe (f, has, e) =
-    ap status_of e
-    ∙ refused_fault (before.files.held file) (tells file (inl refl)) unsafe f has
-unsafe_wrong (serial_form file script trace) before w opens tells unsafe (inl (f, has, e)) =
-    ap status_of e
-    ∙ refused_fault (before.files.held file) (tells file (inl refl)) unsafe f has
-unsafe_wrong (serial_form file script trace) before w opens tells unsafe (inr (r, o, n, e)) =
-    absurd (no_opening (before.files.held file) (tells file (inl refl)) unsafe r o)
-unsafe_wrong (later_form later) before w opens tells unsafe is = absurd opens
-unsafe_wrong usage_form before w opens tells unsafe is = absurd opens
+unsafe_right : (form : Form) (before : Scene) (d : Deed) → IsTold (plan_held form before)
+    → HoldsUnsafePlan (plan_held form before) → IsRight form before.files.held d → ⊥
+unsafe_right (plan_form file) before d told unsafe r =
+    no_opening (before.files.held file) told unsafe r.recorded r.opening
+unsafe_right (serial_form file script trace) before d told unsafe r =
+    no_opening (before.files.held file) told unsafe r.recorded r.opening
+unsafe_right (later_form later) before d told unsafe r = r
+unsafe_right usage_form before d told unsafe r = r
+
+unsafe_wrong : (form : Form) (before : Scene) (w : Wrong) → OpensPlan form
+    → IsTold (plan_held form before) → HoldsUnsafePlan (plan_held form before)
+    → IsWrongOf form before w → status_of w ≡ status.Refused
+unsafe_wrong form before w opens told unsafe (of_plan f has e) =
+    ap status_of e ∙ refused_fault (plan_held form before) told unsafe f has
+unsafe_wrong form before w opens told unsafe (of_script r o n e) =
+    absurd (no_opening (plan_held form before) told unsafe r o)
+unsafe_wrong form before w opens told unsafe (of_command later i e) =
+    absurd (subst OpensPlan i opens)
+
+-- ---- the lines of refusals
+
+module _ (form : Form) (before after : Scene) (w : Wrong) (whole : IsWhole before after (line_of w))
+    where
+  lined : (v : Wrong) → w ≡ v → IsWhole before after (line_of v)
+  lined v e = subst (λ (x : Wrong). IsWhole before after (line_of x)) e whole
+
+  boundary_of : IsWrongOf form before w → status_of w ≡ status.Refused
+      → IsBoundaryRefused form before after
+  boundary_of (of_plan f has e) s = boundary_line form before after f w has e s whole
+  boundary_of (of_script r o n e) s =
+      let is : status.Unbuilt ≡ status.Refused = sym (ap status_of e) ∙ s in absurd cc
+  boundary_of (of_command later i e) s =
+      let is : status.Unbuilt ≡ status.Refused = sym (ap status_of e) ∙ s in absurd cc
+
+  net_of : IsWrongOf form before w → status_of w ≡ status.BadNet → IsNoEmulation form before after
+  net_of (of_plan f has e) s =
+      net_line form before after f w has e (sym (ap status_of e) ∙ s) whole
+  net_of (of_script r o n e) s =
+      let is : status.Unbuilt ≡ status.BadNet = sym (ap status_of e) ∙ s in absurd cc
+  net_of (of_command later i e) s =
+      let is : status.Unbuilt ≡ status.BadNet = sym (ap status_of e) ∙ s in absurd cc
+
+  not_built_of : IsWrongOf form before w → status_of w ≡ status.Unbuilt
+      → IsNotBuilt form before after
+  not_built_of (of_plan f has e) s =
+      plan_line form before after f w has e (sym (ap status_of e) ∙ s) whole
+  not_built_of (of_script r o n e) s = no_script n (lined wrongs.NoScript e)
+  not_built_of (of_command later i e) s = no_command later i (lined (wrongs.Later later) e)
 
 -- ---- the laws
 
@@ -183,21 +195,21 @@ module _ (form : Form) (before after : Scene) (result : Status)
       let r =
       refused_with status.Refused is
       (refused_where form before after result kind (subst IsRefusal (sym is) tt)) in
-      boundary_of form before after r.0 r.1 r.2 r.3
+      boundary_of form before after r.0 r.3 (wrong_of form before r.0 r.1) r.2
 
   pub net_only : result ≡ status.BadNet → IsNoEmulation form before after
   net_only is =
       let r =
       refused_with status.BadNet is
       (refused_where form before after result kind (subst IsRefusal (sym is) tt)) in
-      net_of form before after r.0 r.1 r.2 r.3
+      net_of form before after r.0 r.3 (wrong_of form before r.0 r.1) r.2
 
   pub not_built_only : result ≡ status.Unbuilt → IsNotBuilt form before after
   not_built_only is =
       let r =
       refused_with status.Unbuilt is
       (refused_where form before after result kind (subst IsRefusal (sym is) tt)) in
-      not_built_of form before after r.0 r.1 r.2 r.3
+      not_built_of form before after r.0 r.3 (wrong_of form before r.0 r.1) r.2
 
   module _ (tells : Tells form before) (calm : IsCalm form before after) where
     pub fault_comes : (f : OpenFault) → OpensPlan form → HoldsFault (plan_held form before) f
@@ -209,8 +221,11 @@ module _ (form : Form) (before after : Scene) (result : Status)
     pub boundary_comes : OpensPlan form → HoldsUnsafePlan (plan_held form before)
         → IsUnlessMemory result status.Refused
     boundary_comes opens unsafe = elim kind [
-      | is_done d r read is w ↦ absurd (unsafe_right form before d tells unsafe r)
-      | is_refused u r read is w ↦ inl (is ∙ unsafe_wrong form before u opens tells unsafe r)
+      | is_done d r read is w ↦
+          absurd (unsafe_right form before d (plan_told form before opens tells) unsafe r)
+      | is_refused u r read is w ↦
+          inl (is ∙ unsafe_wrong form before u opens (plan_told form before opens tells) unsafe
+          (wrong_of form before u r))
       | is_misused r read is w ↦ absurd (subst OpensPlan r opens)
       | is_unread k has is w ↦ absurd (calm_unread form before after result kind calm k has)
       | is_unput is r ↦ absurd (calm_unput form before after result kind calm r)
