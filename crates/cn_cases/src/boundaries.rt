@@ -3,7 +3,7 @@
 use crate::build::{DeviceRow, LinkRow, network};
 use crate::nets::{FIVE, FIVE_LINKS, L1, L2, S1, T1, T2};
 use crate::opening::{certificate, devices};
-use crate::words;
+use crate::words::{self, same};
 use cn_cert::{CertWhy, Uncertified, first_refusal};
 use cn_island::islands;
 use cn_net::Net;
@@ -130,12 +130,8 @@ fn boundaries_are_certified_or_refused(rt: HostRuntime) -> Result<(), Fail> {
     let alloc = rt.alloc();
     for (case, devices, links, emulated, text) in CASES {
         let net = network(alloc, devices, links)?;
-        assert_eq!(rt; first(alloc, &net, emulated)?.as_str(), *text, "{case}");
-        assert_eq!(rt;
-            certificate_of(alloc, net, emulated)?.as_str(),
-            *text,
-            "{case}"
-        );
+        same(&rt, case, &first(alloc, &net, emulated)?, text);
+        same(&rt, case, &certificate_of(alloc, net, emulated)?, text);
     }
     Ok(())
 }

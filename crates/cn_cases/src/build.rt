@@ -110,15 +110,19 @@ pub fn with_peers(device: DeviceDraft, peers: Vec<PeerDraft>) -> DeviceDraft {
     device
 }
 
-/// The device of a row.
-pub fn device_of(alloc: Global, row: &DeviceRow) -> Result<DeviceDraft, Fail> {
-    let (text, layer, asn, id, prefixes) = *row;
-    let id = address_of(id.as_bytes()).ok_or("no router id")?;
+fn owns(alloc: Global, prefixes: &[&str]) -> Result<Vec<Own>, Fail> {
     let mut list = Vec::new(alloc);
     for prefix in prefixes {
         list.push(own(prefix)?)?;
     }
-    device(alloc, text, layer, asn, id, list)
+    Ok(list)
+}
+
+/// The device of a row.
+pub fn device_of(alloc: Global, row: &DeviceRow) -> Result<DeviceDraft, Fail> {
+    let (text, layer, asn, id, prefixes) = *row;
+    let id = address_of(id.as_bytes()).ok_or("no router id")?;
+    device(alloc, text, layer, asn, id, owns(alloc, prefixes)?)
 }
 
 /// A link between two devices.

@@ -2,7 +2,7 @@
 
 use crate::build::{network, prefix};
 use crate::nets::{FIVE, FIVE_LINKS};
-use crate::words::name_of;
+use crate::words::{equal, name_of, same};
 use cn_base::{DeviceId, Origin};
 use cn_net::Net;
 use std::alloc::Global;
@@ -25,12 +25,10 @@ const ALL_UP: &str = "+t1l1+t1l2+t2l1+t2l2+l1s1+l2s1";
 fn networks_are_copied(rt: HostRuntime) -> Result<(), Fail> {
     let alloc = rt.alloc();
     let copy = network(alloc, &FIVE, &FIVE_LINKS)?.copy(alloc)?;
-    assert_eq!(rt; links(alloc, &copy)?.as_str(), ALL_UP);
-    assert_eq!(rt; copy.find("s1").map(|d| d.0), Some(4));
-    assert_eq!(rt;
-        copy.own_origin(DeviceId(1), &prefix("10.1.2.0/24")?),
-        Some(Origin::Igp)
-    );
+    same(&rt, "links", &links(alloc, &copy)?, ALL_UP);
+    equal(&rt, "s1", &copy.find("s1"), &Some(DeviceId(4)));
+    let origin = copy.own_origin(DeviceId(1), &prefix("10.1.2.0/24")?);
+    equal(&rt, "ORIGIN", &origin, &Some(Origin::Igp));
     Ok(())
 }
 
@@ -44,9 +42,8 @@ const TURNED: &[(&str, &str, bool, &str)] = &[
 // The network of the five devices with another state of the link between two of them.
 fn turned(alloc: Global, first: &str, second: &str, up: bool) -> Result<Net, Fail> {
     let net = network(alloc, &FIVE, &FIVE_LINKS)?;
-    let (Some(a), Some(b)) = (net.find(first), net.find(second)) else {
-        return Err(Fail::new("no device"));
-    };
+    let a = net.find(first).ok_or("no device")?;
+    let b = net.find(second).ok_or("no device")?;
     if net.link(a, b).is_none() {
         return Err(Fail::new("no link"));
     }
@@ -58,7 +55,7 @@ fn links_are_turned(rt: HostRuntime) -> Result<(), Fail> {
     let alloc = rt.alloc();
     for (first, second, up, text) in TURNED {
         let net = turned(alloc, first, second, *up)?;
-        assert_eq!(rt; links(alloc, &net)?.as_str(), *text, "{first} {second}");
+        same(&rt, first, &links(alloc, &net)?, text);
     }
     Ok(())
 }

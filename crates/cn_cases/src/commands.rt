@@ -1,14 +1,16 @@
 //! What the top call answers, puts and leaves. A case is one call over a shelf and an out that tell
 //! what they hold; the tables stand in `planning.rt`, `running.rt` and `failing.rt`.
 
+use crate::pieces::text_of;
+use crate::words::{equal, same};
 use cn_outside::{MemoryOut, MemoryShelf, Out, ReadAnswer, Shelf, Trip, WriteAnswer};
 use cn_top::{Status, command};
 use std::alloc::Global;
 use std::process::Abort;
 use std::test::Fail;
 
-/// A name, and the pieces of the text under it.
-pub type File = (&'static str, &'static [&'static str]);
+/// A name, and the names of the pieces of the text under it.
+pub type File = (&'static str, &'static str);
 
 /// One call, and what is seen of it.
 pub struct Case {
@@ -26,9 +28,6 @@ pub struct Case {
     /// What is under names after the call.
     pub left: &'static [File],
 }
-
-/// What stands for a name that holds nothing.
-pub const ABSENT: &[&str] = &["nothing"];
 
 /// The plan of a file is looked at.
 pub const PLAN: Case = Case {
@@ -62,7 +61,7 @@ fn words_of(alloc: Global, list: &[&str]) -> Result<Vec<String>, Fail> {
 fn shelf_of(alloc: Global, files: &[File]) -> Result<MemoryShelf, Fail> {
     let mut shelf = MemoryShelf::new(alloc);
     for (name, pieces) in files {
-        shelf.hold(alloc, *name, pieces.join(alloc, "")?.as_bytes())?;
+        shelf.hold(alloc, *name, text_of(alloc, pieces)?.as_bytes())?;
     }
     Ok(shelf)
 }
@@ -76,7 +75,8 @@ fn held(alloc: Global, shelf: &mut MemoryShelf, name: &str) -> Result<String, Fa
     }
 }
 
-// Whether so many calls were made: of all later ones the very next is the one that then fails.
+// Whether so many calls were made: then the next write and the next put have the numbers that are
+// now made to fail.
 fn has_made(
     alloc: Global,
     shelf: &mut MemoryShelf,
@@ -96,29 +96,48 @@ fn has_made(
     Ok(written == Err(WriteAnswer::Failed) && printed == Err(WriteAnswer::Failed))
 }
 
-/// Makes the call of each case, and compares what is seen of it.
+// What is under names, each behind its name.
+fn found_under(alloc: Global, shelf: &mut MemoryShelf, files: &[File]) -> Result<String, Fail> {
+    let mut text = String::new(alloc);
+    for (name, _) in files {
+        text.push_str(name)?;
+        text.push_str(&held(alloc, shelf, *name)?)?;
+    }
+    Ok(text)
+}
+
+// The same as a case has it.
+fn wanted_under(alloc: Global, files: &[File]) -> Result<String, Fail> {
+    let mut text = String::new(alloc);
+    for (name, pieces) in files {
+        text.push_str(name)?;
+        text.push_str(&text_of(alloc, pieces)?)?;
+    }
+    Ok(text)
+}
+
+// Makes the call of a case, and compares what is seen of it.
+fn call(rt: &impl Abort, alloc: Global, case: &Case) -> Result<(), Fail> {
+    let mut shelf = shelf_of(alloc, case.files)?;
+    shelf.trip(Vec::from_slice(alloc, case.failing)?);
+    let mut out = MemoryOut::new(alloc);
+    out.trip(Vec::from_slice(alloc, case.tripped)?);
+    let words = words_of(alloc, case.words)?;
+    let status = command(alloc, &words, &mut shelf, &mut out);
+    equal(rt, case.name, &status, &case.status);
+    let text = String::from_utf8(out.taken().to_vec(alloc)?)?;
+    same(rt, case.name, &text, case.text);
+    let made = has_made(alloc, &mut shelf, &mut out, case.calls)?;
+    equal(rt, case.name, &made, &true);
+    let found = found_under(alloc, &mut shelf, case.left)?;
+    same(rt, case.name, &found, &wanted_under(alloc, case.left)?);
+    Ok(())
+}
+
+/// Makes the calls of cases.
 pub fn answer(rt: &impl Abort, alloc: Global, cases: &[Case]) -> Result<(), Fail> {
     for case in cases {
-        let name = case.name;
-        let mut shelf = shelf_of(alloc, case.files)?;
-        let mut out = MemoryOut::new(alloc);
-        shelf.trip(Vec::from_slice(alloc, case.failing)?);
-        out.trip(Vec::from_slice(alloc, case.tripped)?);
-        let status = command(alloc, &words_of(alloc, case.words)?, &mut shelf, &mut out);
-        assert_eq!(rt; status, case.status, "{name}");
-        assert!(rt; out.taken() == case.text.as_bytes(), "{name}");
-        assert!(rt;
-            has_made(alloc, &mut shelf, &mut out, case.calls)?,
-            "{name}"
-        );
-        for (file, pieces) in case.left {
-            let found = held(alloc, &mut shelf, *file)?;
-            assert_eq!(rt;
-                found.as_str(),
-                pieces.join(alloc, "")?.as_str(),
-                "{name}: {file}"
-            );
-        }
+        call(rt, alloc, case)?;
     }
     Ok(())
 }

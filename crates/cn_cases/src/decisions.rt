@@ -1,6 +1,7 @@
 //! The decision between routes (RFC 4271, 9.1.2.2).
 
 use crate::build::prefix;
+use crate::words::equal;
 use cn_base::{AsPath, Asn, DeviceId, Origin, Route, RouterId};
 use cn_decide::{Candidate, Ranked, better, pick, rank};
 use std::alloc::Global;
@@ -93,7 +94,8 @@ fn picked(alloc: Global, rows: &[CandidateRow]) -> Result<Option<usize>, Fail> {
 #[test]
 fn the_least_rank_is_picked(rt: HostRuntime) -> Result<(), Fail> {
     for (case, rows, place) in CASES {
-        assert_eq!(rt; picked(rt.alloc(), rows)?, *place, "{case}");
+        equal(&rt, case, &picked(rt.alloc(), rows)?, place);
+        equal(&rt, case, &kept(rt.alloc(), rows)?, place);
     }
     Ok(())
 }
@@ -112,17 +114,11 @@ fn kept(alloc: Global, rows: &[CandidateRow]) -> Result<Option<usize>, Fail> {
 }
 
 #[test]
-fn the_least_rank_is_kept(rt: HostRuntime) -> Result<(), Fail> {
-    for (case, rows, place) in CASES {
-        assert_eq!(rt; kept(rt.alloc(), rows)?, *place, "{case}");
-    }
-    Ok(())
-}
-
-#[test]
 fn candidates_are_ranked(rt: HostRuntime) -> Result<(), Fail> {
     let rank = rank(&candidate(rt.alloc(), &(false, 0, Origin::Egp, 5))?);
-    assert_eq!(rt; (rank.learnt, rank.length), (false, 0));
-    assert_eq!(rt; (rank.origin, rank.sender), (Origin::Egp, RouterId(5)));
+    equal(&rt, "learnt", &rank.learnt, &false);
+    equal(&rt, "length", &rank.length, &0);
+    equal(&rt, "ORIGIN", &rank.origin, &Origin::Egp);
+    equal(&rt, "sender", &rank.sender, &RouterId(5));
     Ok(())
 }

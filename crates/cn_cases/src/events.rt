@@ -3,6 +3,7 @@
 use crate::build::{DeviceRow, LinkRow, network};
 use crate::nets::{L1, T1};
 use crate::opening::{RecordRow, recorded};
+use crate::words::{equal, same};
 use cn_base::DeviceId;
 use cn_core::{Core, Event, Step, StepAnswer};
 use cn_report::print_pull;
@@ -167,7 +168,7 @@ fn cores_are_told(rt: HostRuntime) -> Result<(), Fail> {
     for (case, devices, emulated, records, times, text) in CASES {
         let mut core = started(alloc, devices, emulated, records)?;
         run(alloc, &mut core, *times)?;
-        assert_eq!(rt; told(alloc, &core)?.as_str(), *text, "{case}");
+        same(&rt, case, &told(alloc, &core)?, text);
     }
     Ok(())
 }
@@ -189,8 +190,8 @@ fn events_are_refused(rt: HostRuntime) -> Result<(), Fail> {
         let before = core.history().len();
         let (from, to) = (DeviceId(*from), DeviceId(*to));
         let refused = core.step(alloc, Event::Send { from, to });
-        assert_eq!(rt; refused, Err(StepAnswer::NotEnabled), "{case}");
-        assert_eq!(rt; core.history().len(), before, "{case}");
+        equal(&rt, case, &refused, &Err(StepAnswer::NotEnabled));
+        equal(&rt, case, &core.history().len(), &before);
     }
     Ok(())
 }

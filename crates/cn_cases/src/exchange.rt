@@ -2,6 +2,7 @@
 
 use crate::build::{network, prefix};
 use crate::nets::{FIVE, FIVE_LINKS};
+use crate::words::same;
 use cn_base::{AsPath, Asn, DeviceId, Origin, Route};
 use cn_net::Net;
 use cn_text::path_of;
@@ -76,7 +77,7 @@ fn offers_are_told(rt: HostRuntime) -> Result<(), Fail> {
     for (case, a, b, path, sevens, text) in CASES {
         let route = route(alloc, path, *sevens)?;
         let found = told(alloc, &net, DeviceId(*a), DeviceId(*b), &route)?;
-        assert_eq!(rt; found.as_str(), *text, "{case}");
+        same(&rt, case, &found, text);
     }
     Ok(())
 }

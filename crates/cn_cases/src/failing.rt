@@ -2,7 +2,7 @@
 //! but that it puts the line which names a file that couldn't be read.
 
 use crate::command_texts::*;
-use crate::commands::{ABSENT, Case, PLAN, SERIAL, answer};
+use crate::commands::{Case, PLAN, SERIAL, answer};
 use cn_outside::Trip;
 use cn_top::Status;
 use std::test::Fail;
@@ -22,30 +22,30 @@ const PLANS: &[Case] = &[
         name: "a name that holds nothing",
         status: Status::ReadFault,
         text: "cannot read q.toml\n",
-        left: &[("q.toml", ABSENT)],
+        left: &[("q.toml", "nothing")],
         ..PLAN
     },
     Case {
         name: "the read",
-        files: &[("q.toml", &[ALL, T1, T2, L1, L2, S1, FIVE_LINKS])],
+        files: &[("q.toml", "all t1 t2 l1 l2 s1 links")],
         failing: FIRST,
         status: Status::ReadFault,
         text: "cannot read q.toml\n",
-        left: &[("q.toml", &[ALL, T1, T2, L1, L2, S1, FIVE_LINKS])],
+        left: &[("q.toml", "all t1 t2 l1 l2 s1 links")],
         ..PLAN
     },
     Case {
         name: "the put",
-        files: &[("q.toml", &[ALL, T1, T2, L1, L2, S1, FIVE_LINKS])],
+        files: &[("q.toml", "all t1 t2 l1 l2 s1 links")],
         tripped: FIRST_AFTER_FIVE,
         status: Status::WriteFault,
         text: "certi",
-        left: &[("q.toml", &[ALL, T1, T2, L1, L2, S1, FIVE_LINKS])],
+        left: &[("q.toml", "all t1 t2 l1 l2 s1 links")],
         ..PLAN
     },
     Case {
         name: "the put of a refusal",
-        files: &[("q.toml", &[THREE, T1, T2, L1, L2, S1, FIVE_LINKS])],
+        files: &[("q.toml", "three t1 t2 l1 l2 s1 links")],
         tripped: FIRST_AFTER_FIVE,
         status: Status::WriteFault,
         text: "refus",
@@ -53,7 +53,7 @@ const PLANS: &[Case] = &[
     },
     Case {
         name: "the read, and the put that tells it",
-        files: &[("q.toml", &[ALL, T1, T2, L1, L2, S1, FIVE_LINKS])],
+        files: &[("q.toml", "all t1 t2 l1 l2 s1 links")],
         failing: FIRST,
         tripped: FIRST,
         status: Status::WriteFault,
@@ -74,14 +74,14 @@ const PLANS: &[Case] = &[
 // The rack and the leaf, with a script, and a trace that is there already.
 const RUN: Case = Case {
     files: &[
-        ("q.toml", &[BOTH, T1, L1, T1_L1]),
-        ("s.toml", &[UNTIL_QUIET]),
-        ("t.txt", &[OLDER]),
+        ("q.toml", "both t1 l1 t1-l1"),
+        ("s.toml", "until-quiet"),
+        ("t.txt", "older"),
     ],
     left: &[
-        ("q.toml", &[BOTH, T1, L1, T1_L1]),
-        ("s.toml", &[UNTIL_QUIET]),
-        ("t.txt", &[OLDER]),
+        ("q.toml", "both t1 l1 t1-l1"),
+        ("s.toml", "until-quiet"),
+        ("t.txt", "older"),
     ],
     ..SERIAL
 };
@@ -89,23 +89,20 @@ const RUN: Case = Case {
 const RUNS: &[Case] = &[
     Case {
         name: "a plan that isn't there",
-        files: &[("s.toml", &[ONE_BY_ONE]), ("t.txt", &[OLDER])],
+        files: &[("s.toml", "one-by-one"), ("t.txt", "older")],
         status: Status::ReadFault,
         calls: (1, 1),
         text: "cannot read q.toml\n",
-        left: &[("s.toml", &[ONE_BY_ONE]), ("t.txt", &[OLDER])],
+        left: &[("s.toml", "one-by-one"), ("t.txt", "older")],
         ..RUN
     },
     Case {
         name: "a script that isn't there",
-        files: &[
-            ("q.toml", &[ALL, T1, T2, L1, L2, S1, FIVE_LINKS]),
-            ("t.txt", &[OLDER]),
-        ],
+        files: &[("q.toml", "all t1 t2 l1 l2 s1 links"), ("t.txt", "older")],
         status: Status::ReadFault,
         calls: (2, 1),
         text: "cannot read s.toml\n",
-        left: &[("s.toml", ABSENT), ("t.txt", &[OLDER])],
+        left: &[("s.toml", "nothing"), ("t.txt", "older")],
         ..RUN
     },
     Case {
@@ -140,10 +137,20 @@ const RUNS: &[Case] = &[
         status: Status::WriteFault,
         calls: (3, 0),
         text: "",
-        left: &[
-            ("q.toml", &[BOTH, T1, L1, T1_L1]),
-            ("s.toml", &[UNTIL_QUIET]),
+        left: &[("q.toml", "both t1 l1 t1-l1"), ("s.toml", "until-quiet")],
+        ..RUN
+    },
+    Case {
+        name: "the write of the trace of five devices",
+        files: &[
+            ("q.toml", "all t1 t2 l1 l2 s1 links"),
+            ("s.toml", "one-by-one"),
         ],
+        failing: THIRD,
+        status: Status::WriteFault,
+        calls: (3, 0),
+        text: "",
+        left: &[("s.toml", "one-by-one")],
         ..RUN
     },
     Case {
@@ -152,7 +159,7 @@ const RUNS: &[Case] = &[
         status: Status::WriteFault,
         calls: (3, 1),
         text: "",
-        left: &[("q.toml", &[BOTH, T1, L1, T1_L1]), ("t.txt", &[TRACE])],
+        left: &[("q.toml", "both t1 l1 t1-l1"), ("t.txt", "trace")],
         ..RUN
     },
     Case {
@@ -161,7 +168,7 @@ const RUNS: &[Case] = &[
         status: Status::WriteFault,
         calls: (3, 2),
         text: "1 work done\n2 p",
-        left: &[("s.toml", &[UNTIL_QUIET]), ("t.txt", &[TRACE])],
+        left: &[("s.toml", "until-quiet"), ("t.txt", "trace")],
         ..RUN
     },
 ];

@@ -4,6 +4,7 @@ use crate::build::{
     DeviceRow, LinkRow, device, devices_of, draft, joined, link, links_of, prefixes_from,
 };
 use crate::nets::{FIVE, FIVE_LINKS};
+use crate::words::same;
 use cn_net::{DeviceDraft, Draft, LinkDraft, Net};
 use std::alloc::Global;
 use std::test::Fail;
@@ -183,7 +184,7 @@ fn fault(alloc: Global, more: &[DeviceRow], links: &[LinkRow]) -> Result<String,
 fn first_faults_are_told(rt: HostRuntime) -> Result<(), Fail> {
     for (case, more, links, text) in CASES {
         let found = fault(rt.alloc(), more, links)?;
-        assert_eq!(rt; found.as_str(), *text, "{case}");
+        same(&rt, case, &found, text);
     }
     Ok(())
 }
@@ -269,7 +270,7 @@ fn limits_are_told(rt: HostRuntime) -> Result<(), Fail> {
         let devices = many_devices(alloc, *devices, *each)?;
         let links = many_links(alloc, *links)?;
         let found = fault_of(alloc, &draft(devices, links))?;
-        assert_eq!(rt; found.as_str(), *text, "{case}");
+        same(&rt, case, &found, text);
     }
     Ok(())
 }

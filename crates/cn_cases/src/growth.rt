@@ -2,7 +2,7 @@
 
 use crate::build::{LinkRow, layered, links_of};
 use crate::opening::devices;
-use crate::words::names;
+use crate::words::{names, same};
 use cn_grow::grow;
 use std::alloc::Global;
 use std::test::Fail;
@@ -101,7 +101,7 @@ fn grown(alloc: Global, layers: &[u8], links: &[LinkRow], must: &str) -> Result<
 fn sets_grow(rt: HostRuntime) -> Result<(), Fail> {
     for (case, layers, links, must, set) in CASES {
         let found = grown(rt.alloc(), layers, links, must)?;
-        assert_eq!(rt; found.as_str(), *set, "{case}");
+        same(&rt, case, &found, set);
     }
     Ok(())
 }

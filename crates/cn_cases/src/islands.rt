@@ -2,7 +2,7 @@
 
 use crate::build::{LinkRow, layered, link, links_of};
 use crate::opening::devices;
-use crate::words;
+use crate::words::{self, equal, same};
 use cn_base::DeviceId;
 use cn_island::islands;
 use cn_net::{DeviceSet, Labels, Link, LinkDraft, Net};
@@ -58,7 +58,7 @@ fn labelled(alloc: Global, layers: &[u8], links: &[LinkRow], names: &str) -> Res
 fn islands_are_labelled(rt: HostRuntime) -> Result<(), Fail> {
     for (case, layers, links, emulated, labels) in CASES {
         let found = labelled(rt.alloc(), layers, links, emulated)?;
-        assert_eq!(rt; found.as_str(), *labels, "{case}");
+        same(&rt, case, &found, labels);
     }
     Ok(())
 }
@@ -130,12 +130,15 @@ fn agrees(alloc: Global, near: u32, far: u32, names: &str) -> Result<bool, Fail>
 fn labels_are_as_by_relabelling(rt: HostRuntime) -> Result<(), Fail> {
     for (near, far, emulated) in STRIDES {
         let agrees = agrees(rt.alloc(), *near, *far, emulated)?;
-        assert!(rt; agrees, "{near} and {far}");
+        equal(&rt, "strides", &(*near, *far, agrees), &(*near, *far, true));
     }
     Ok(())
 }
 
 // ---- sets
+
+// Numbers, and whether their devices are in the set.
+const HELD: &[(u32, bool)] = &[(0, true), (1, true), (2, false), (3, true), (4, false)];
 
 // A set has each device once, in order, however the names stood.
 #[test]
@@ -143,13 +146,12 @@ fn devices_stand_once_in_a_set(rt: HostRuntime) -> Result<(), Fail> {
     let alloc = rt.alloc();
     let net = layered(alloc, &[0; 4], Vec::new(alloc))?;
     let set = devices(alloc, &net, "n3 n1 n3 n0 n1")?;
-    assert_eq!(rt;
-        words::names(alloc, &net, set.items())?.as_str(),
-        "n0 n1 n3"
-    );
-    assert_eq!(rt; set.len(), 3);
-    for (number, held) in [(0, true), (1, true), (2, false), (3, true), (4, false)] {
-        assert_eq!(rt; set.holds(DeviceId(number)), held, "{number}");
+    let names = words::names(alloc, &net, set.items())?;
+    same(&rt, "a set", &names, "n0 n1 n3");
+    equal(&rt, "a set", &set.len(), &3);
+    for row in HELD {
+        let (number, _) = *row;
+        equal(&rt, "held", &(number, set.holds(DeviceId(number))), row);
     }
     Ok(())
 }

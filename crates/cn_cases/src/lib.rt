@@ -9,10 +9,11 @@
 //! an assertion that fails prints the name of its case.
 //!
 //! The top call is made by `commands`, over a shelf and an out that tell what they hold, for the
-//! cases of `planning`, `running` and `failing`; `command_texts` has the texts of their files. Each
-//! of these cases says too how many reads, writes and puts are made, so that none is made again and
-//! none comes after one that failed. The statuses 0, 1, 2, 7 and 9 are each wanted somewhere, with
-//! ample memory, so no body that always wants memory or meets a fault passes.
+//! cases of `planning`, `running` and `failing`; `pieces` has the files, and `command_texts` what
+//! several of them put. Each of these cases says too how many reads, writes and puts are made, so
+//! that none is made again and none comes after one that failed. The statuses 0, 1, 2, 7 and 9 are
+//! each wanted somewhere, with ample memory, so no body that always wants memory or meets a fault
+//! passes.
 //!
 //! The expected texts come from the definitions, the RFCs and the program's other description, its
 //! acceptance cases; none is copied from an answer of the code.
@@ -54,6 +55,8 @@ mod opening;
 mod packing;
 #[cfg(test)]
 mod peers;
+#[cfg(test)]
+mod pieces;
 #[cfg(test)]
 mod planning;
 #[cfg(test)]

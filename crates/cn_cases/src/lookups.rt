@@ -2,7 +2,7 @@
 
 use crate::build::{network, prefix};
 use crate::nets::{FIVE, FIVE_LINKS};
-use crate::words::name_of;
+use crate::words::{equal, name_of, same};
 use cn_base::DeviceId;
 use cn_net::Net;
 use std::alloc::Global;
@@ -24,7 +24,7 @@ fn devices_are_found(rt: HostRuntime) -> Result<(), Fail> {
     let net = network(rt.alloc(), &FIVE, &FIVE_LINKS)?;
     net.valid();
     for (text, number) in NUMBERS {
-        assert_eq!(rt; net.find(text).map(|d| d.0), *number, "{text}");
+        equal(&rt, text, &net.find(text).map(|d| d.0), number);
     }
     Ok(())
 }
@@ -61,10 +61,15 @@ fn devices_are_told(rt: HostRuntime) -> Result<(), Fail> {
     let net = network(rt.alloc(), &FIVE, &FIVE_LINKS)?;
     for (number, text) in TOLD {
         let device = DeviceId(*number);
-        assert_eq!(rt; told(rt.alloc(), &net, device)?.as_str(), *text);
-        assert_eq!(rt; net.device(device).is_some(), device.0 < net.count());
+        same(&rt, text, &told(rt.alloc(), &net, device)?, text);
+        equal(
+            &rt,
+            text,
+            &net.device(device).is_some(),
+            &(device.0 < net.count()),
+        );
     }
-    assert_eq!(rt; net.devices().len(), 5);
+    equal(&rt, "all", &net.devices().len(), &5);
     Ok(())
 }
 
@@ -82,8 +87,14 @@ const LINKED: &[(u32, u32, Option<bool>)] = &[
 #[test]
 fn links_are_found(rt: HostRuntime) -> Result<(), Fail> {
     let net = network(rt.alloc(), &FIVE, &FIVE_LINKS)?;
-    for (a, b, up) in LINKED {
-        assert_eq!(rt; net.link(DeviceId(*a), DeviceId(*b)), *up, "{a} {b}");
+    for row in LINKED {
+        let (a, b, _) = *row;
+        equal(
+            &rt,
+            "link",
+            &(a, b, net.link(DeviceId(a), DeviceId(b))),
+            row,
+        );
     }
     Ok(())
 }

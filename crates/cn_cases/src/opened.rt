@@ -1,6 +1,6 @@
 //! What the text of a plan names, and what it opens with.
 
-use crate::command_texts::*;
+use crate::pieces::text_of;
 use crate::words;
 use cn_open::{Named, OpenAnswer, OpenFault, PLAN_LIMIT, PlanFault, name_plan, open_plan};
 use cn_plan::Selection;
@@ -8,47 +8,47 @@ use std::alloc::Global;
 use std::test::Fail;
 
 // A case, the pieces of a plan, what it names, and what it opens with.
-const CASES: &[(&str, &[&str], &str, &str)] = &[
+const CASES: &[(&str, &str, &str, &str)] = &[
     (
         "grown from a rack",
-        &[GROWN, T1, T2, L1, L2, S1, FIVE_LINKS, RECORD],
+        "grown t1 t2 l1 l2 s1 links record",
         "must t1 rows 1 devices 5",
         "emulated t1 l1 l2 s1 islands - t2 - - - rows 1",
     ),
     (
         "all by their names",
-        &[ALL, T1, T2, L1, L2, S1, FIVE_LINKS],
+        "all t1 t2 l1 l2 s1 links",
         "emulate t1 t2 l1 l2 s1 rows 0 devices 5",
         "emulated t1 t2 l1 l2 s1 islands - - - - - rows 0",
     ),
     (
         "the boundary is looked at last but one",
-        &[THREE, T1, T2, L1, L2, S1, FIVE_LINKS, RECORD],
+        "three t1 t2 l1 l2 s1 links record",
         "emulate t1 l1 s1 rows 1 devices 5",
         "facing Emulated t2: t1 65101 l1 65201",
     ),
     (
         "the records are looked at last",
-        &[GROWN, T1, T2, L1, L2, S1, FIVE_LINKS, WRONG_RECORD],
+        "grown t1 t2 l1 l2 s1 links wrong-record",
         "must t1 rows 1 devices 5",
         "t2 10.1.2.0/24: held own path 65102 origin igp wanted own path - origin igp",
     ),
-    ("an empty text", &[], "no plan", "no plan"),
+    ("an empty text", "", "no plan", "no plan"),
     (
         "a router id twice",
-        &[GROWN, T1, T2, L1, L2_SAME_ID, S1, FIVE_LINKS],
+        "grown t1 t2 l1 l2-same-id s1 links",
         "no network",
         "no network",
     ),
     (
         "an unknown name comes before a record twice",
-        &[UNKNOWN, T1, T2, L1, L2, S1, FIVE_LINKS, RECORD, RECORD],
+        "unknown t1 t2 l1 l2 s1 links record record",
         "unknown t9",
         "unknown t9",
     ),
     (
         "a record twice",
-        &[GROWN, T1, T2, L1, L2, S1, FIVE_LINKS, RECORD, RECORD],
+        "grown t1 t2 l1 l2 s1 links record record",
         "twice 1 10.1.2.0/24",
         "twice 1 10.1.2.0/24",
     ),
@@ -119,10 +119,10 @@ fn answers(alloc: Global, bytes: &[u8]) -> Result<(String, String), Fail> {
 fn plans_are_opened(rt: HostRuntime) -> Result<(), Fail> {
     let alloc = rt.alloc();
     for (case, pieces, names, opens) in CASES {
-        let text = pieces.join(alloc, "")?;
+        let text = text_of(alloc, pieces)?;
         let (first, second) = answers(alloc, text.as_bytes())?;
-        assert_eq!(rt; first.as_str(), *names, "{case}");
-        assert_eq!(rt; second.as_str(), *opens, "{case}");
+        words::same(&rt, case, &first, names);
+        words::same(&rt, case, &second, opens);
     }
     Ok(())
 }

@@ -91,10 +91,7 @@ pub fn certificate(
 
 /// The network with these emulated devices, behind a certified boundary.
 pub fn certified(alloc: Global, net: Net, names: &str) -> Result<Certified, Fail> {
-    match certificate(alloc, net, names)? {
-        Ok(certified) => Ok(certified),
-        Err(_) => Err(Fail::new("not certified")),
-    }
+    Ok(certificate(alloc, net, names)?.ok().ok_or("not certified")?)
 }
 
 /// The same with these rows, which are sound.

@@ -1,5 +1,6 @@
 //! What a session owes, as messages (RFC 4271, 4.3 and 9.2).
 
+use crate::words::{equal, same};
 use cn_base::{AsPath, Asn, Origin, Prefix};
 use cn_pack::{Owed, next_message};
 use cn_wire::{Update, encode, fits};
@@ -79,39 +80,40 @@ fn messages_are_full(rt: HostRuntime) -> Result<(), Fail> {
     let alloc = rt.alloc();
     for (case, first, count, asn, counts) in FULL {
         let owed = many(alloc, *first, *count, *asn)?;
-        assert_eq!(rt; told(alloc, &owed)?, *counts, "{case}");
+        equal(&rt, case, &told(alloc, &owed)?, counts);
     }
     Ok(())
 }
 
-// A withdrawal goes before each announcement.
-#[test]
-fn withdrawals_go_first(rt: HostRuntime) -> Result<(), Fail> {
-    let alloc = rt.alloc();
-    let list = list(alloc, &[(0, Some(65101)), (1, Some(65101)), (2, None)])?;
-    let update = message(alloc, &list)?;
-    let prefix = Prefix::new(0x0A00_0200, 24).ok_or("no prefix")?;
-    assert_eq!(rt; update.withdrawn.items(), [prefix].as_slice());
-    assert_eq!(rt; update.announced.len(), 0);
-    assert!(rt; update.attrs.is_none());
-    Ok(())
+// A case, what is owed, and the message: the withdrawn prefixes, the announced ones, and their path
+// and NEXT_HOP.
+const SENT: &[(&str, &[(u16, Option<u32>)], &str)] = &[
+    (
+        "a withdrawal goes before each announcement",
+        &[(0, Some(65101)), (1, Some(65101)), (2, None)],
+        "[Prefix { bits: 167772672, len: 24 }] [] None",
+    ),
+    (
+        "prefixes with the attributes of the first are announced with it, and others are left",
+        &[(0, Some(65101)), (1, Some(65102)), (2, Some(65101))],
+        "[] [Prefix { bits: 167772160, len: 24 }, Prefix { bits: 167772672, len: 24 }] \
+        Some(([Asn(65101)], 167772161))",
+    ),
+];
+
+fn sent(alloc: Global, rows: &[(u16, Option<u32>)]) -> Result<String, Fail> {
+    let update = message(alloc, &list(alloc, rows)?)?;
+    let (withdrawn, announced) = (update.withdrawn.items(), update.announced.items());
+    let attrs = update.attrs.as_ref();
+    let attrs = attrs.map(|attrs| (attrs.path.items(), attrs.next_hop));
+    Ok(format!(in alloc; "{withdrawn:?} {announced:?} {attrs:?}")?)
 }
 
-// Prefixes with the attributes of the first are announced with it, and others are left.
 #[test]
 fn equal_attributes_go_together(rt: HostRuntime) -> Result<(), Fail> {
-    let alloc = rt.alloc();
-    let list = list(
-        alloc,
-        &[(0, Some(65101)), (1, Some(65102)), (2, Some(65101))],
-    )?;
-    let update = message(alloc, &list)?;
-    let (zero, two) = (Prefix::new(0x0A00_0000, 24), Prefix::new(0x0A00_0200, 24));
-    let announced = [zero.ok_or("no prefix")?, two.ok_or("no prefix")?];
-    assert_eq!(rt; update.announced.items(), announced.as_slice());
-    let attrs = update.attrs.ok_or("attributes")?;
-    assert_eq!(rt; attrs.path.items(), [Asn(65101)].as_slice());
-    assert_eq!(rt; attrs.next_hop, NEXT_HOP);
+    for (case, rows, text) in SENT {
+        same(&rt, case, &sent(rt.alloc(), rows)?, text);
+    }
     Ok(())
 }
 
@@ -120,9 +122,10 @@ const ORDER: &[(u16, u16, bool)] = &[(0, 1, true), (1, 1, false), (2, 1, false)]
 
 #[test]
 fn owed_prefixes_ascend_or_not(rt: HostRuntime) -> Result<(), Fail> {
-    for (first, second, ascend) in ORDER {
-        let list = list(rt.alloc(), &[(*first, None), (*second, None)])?;
-        assert_eq!(rt; Owed::ascend(&list), *ascend, "{first} {second}");
+    for row in ORDER {
+        let (first, second, _) = *row;
+        let list = list(rt.alloc(), &[(first, None), (second, None)])?;
+        equal(&rt, "order", &(first, second, Owed::ascend(&list)), row);
     }
     Ok(())
 }

@@ -5,6 +5,7 @@ use crate::build::{
 };
 use crate::faults::{fault_of, many_devices};
 use crate::nets::{FIVE, FIVE_LINKS};
+use crate::words::same;
 use cn_net::{DeviceDraft, PeerDraft};
 use std::alloc::Global;
 use std::test::Fail;
@@ -98,7 +99,7 @@ fn fault(alloc: Global, sixth: &[&str], seventh: &[&str], last: LinkRow) -> Resu
 fn faults_of_peers_are_told(rt: HostRuntime) -> Result<(), Fail> {
     for (case, sixth, seventh, last, text) in CASES {
         let found = fault(rt.alloc(), sixth, seventh, *last)?;
-        assert_eq!(rt; found.as_str(), *text, "{case}");
+        same(&rt, case, &found, text);
     }
     Ok(())
 }
@@ -128,7 +129,7 @@ fn peers_come_after_the_number_of_prefixes(rt: HostRuntime) -> Result<(), Fail> 
         let mut devices = many_devices(alloc, *count, 5)?;
         devices.push(with_named(alloc, "t3", 7, *id, &["t9"])?)?;
         let found = fault_of(alloc, &draft(devices, Vec::new(alloc)))?;
-        assert_eq!(rt; found.as_str(), *text, "{case}");
+        same(&rt, case, &found, text);
     }
     Ok(())
 }

@@ -8,52 +8,43 @@ use std::test::Fail;
 const CERTIFIED: &[Case] = &[
     Case {
         name: "everything is emulated",
-        files: &[("q.toml", &[ALL, T1, T2, L1, L2, S1, FIVE_LINKS])],
+        files: &[("q.toml", "all t1 t2 l1 l2 s1 links")],
         text: EMULATED,
         ..PLAN
     },
     Case {
         name: "nothing at all",
-        files: &[("q.toml", &[NOTHING])],
+        files: &[("q.toml", "none")],
         text: "certified emulated 0 islands 0\n",
         ..PLAN
     },
     Case {
         name: "grown from a rack, beside the other's record",
-        files: &[("q.toml", &[GROWN, T1, T2, L1, L2, S1, FIVE_LINKS, RECORD])],
+        files: &[("q.toml", "grown t1 t2 l1 l2 s1 links record")],
         text: ONE_ISLAND,
         ..PLAN
     },
     Case {
         name: "the same devices by their names",
-        files: &[("q.toml", &[FOUR, T1, T2, L1, L2, S1, FIVE_LINKS, RECORD])],
+        files: &[("q.toml", "four t1 t2 l1 l2 s1 links record")],
         text: ONE_ISLAND,
         ..PLAN
     },
     Case {
         name: "grown, and a record of a prefix that the island doesn't originate",
-        files: &[(
-            "q.toml",
-            &[GROWN, T1, T2, L1, L2, S1, FIVE_LINKS, RECORD, STALE_RECORD],
-        )],
+        files: &[("q.toml", "grown t1 t2 l1 l2 s1 links record stale-record")],
         text: ONE_ISLAND,
         ..PLAN
     },
     Case {
         name: "named, and a record of a prefix that the island doesn't originate",
-        files: &[(
-            "q.toml",
-            &[FOUR, T1, T2, L1, L2, S1, FIVE_LINKS, RECORD, STALE_RECORD],
-        )],
+        files: &[("q.toml", "four t1 t2 l1 l2 s1 links record stale-record")],
         text: ONE_ISLAND,
         ..PLAN
     },
     Case {
         name: "a device without links is an island of its own",
-        files: &[(
-            "q.toml",
-            &[GROWN, T1, T2, L1, L2, S1, X1, FIVE_LINKS, RECORD],
-        )],
+        files: &[("q.toml", "grown t1 t2 l1 l2 s1 x1 links record")],
         text: TWO_ISLANDS,
         ..PLAN
     },
@@ -68,49 +59,43 @@ const REFUSED: Case = Case {
 const BOUNDARIES: &[Case] = &[
     Case {
         name: "two AS numbers on the emulated side come before what faces them",
-        files: &[("q.toml", &[THREE, T1, T2, L1, L2, S1, FIVE_LINKS, RECORD])],
+        files: &[("q.toml", "three t1 t2 l1 l2 s1 links record")],
         text: EMULATED_SIDE,
         ..REFUSED
     },
     Case {
         name: "two AS numbers on the emulated side, without a record",
-        files: &[("q.toml", &[THREE, T1, T2, L1, L2, S1, FIVE_LINKS])],
+        files: &[("q.toml", "three t1 t2 l1 l2 s1 links")],
         text: EMULATED_SIDE,
         ..REFUSED
     },
     Case {
         name: "two AS numbers on the outside side",
-        files: &[("q.toml", &[RACK, T1, L1, S1, TRIANGLE_LINKS])],
+        files: &[("q.toml", "rack t1 l1 s1 triangle-links")],
         text: OUTSIDE_SIDE,
         ..REFUSED
     },
     Case {
         name: "two AS numbers on the outside side, one with a prefix of its own",
-        files: &[("q.toml", &[RACK, T1, L1_OWN, S1, TRIANGLE_LINKS])],
+        files: &[("q.toml", "rack t1 l1-own s1 triangle-links")],
         text: OUTSIDE_SIDE,
         ..REFUSED
     },
     Case {
         name: "an emulated device originates a prefix of the island",
-        files: &[(
-            "q.toml",
-            &[GROWN, T1_BOTH, T2, L1, L2, S1, FIVE_LINKS, RECORD],
-        )],
+        files: &[("q.toml", "grown t1-both t2 l1 l2 s1 links record")],
         text: INSIDE_ORIGIN,
         ..REFUSED
     },
     Case {
         name: "an emulated device originates a prefix of the island, without a record",
-        files: &[("q.toml", &[FOUR, T1_BOTH, T2, L1, L2, S1, FIVE_LINKS])],
+        files: &[("q.toml", "four t1-both t2 l1 l2 s1 links")],
         text: INSIDE_ORIGIN,
         ..REFUSED
     },
     Case {
         name: "two islands originate one prefix",
-        files: &[(
-            "q.toml",
-            &[GROWN, T1, T2, L1, L2, S1, T3, FIVE_LINKS, T3_LINKS, RECORD],
-        )],
+        files: &[("q.toml", "grown t1 t2 l1 l2 s1 t3 links t3-links record")],
         text: ISLAND_ORIGIN,
         ..REFUSED
     },
@@ -119,40 +104,31 @@ const BOUNDARIES: &[Case] = &[
 const RECORDS: &[Case] = &[
     Case {
         name: "grown, and a record with another path",
-        files: &[(
-            "q.toml",
-            &[GROWN, T1, T2, L1, L2, S1, FIVE_LINKS, WRONG_RECORD],
-        )],
+        files: &[("q.toml", "grown t1 t2 l1 l2 s1 links wrong-record")],
         text: ANOTHER_PATH,
         ..REFUSED
     },
     Case {
         name: "named, and a record with another path",
-        files: &[(
-            "q.toml",
-            &[FOUR, T1, T2, L1, L2, S1, FIVE_LINKS, WRONG_RECORD],
-        )],
+        files: &[("q.toml", "four t1 t2 l1 l2 s1 links wrong-record")],
         text: ANOTHER_PATH,
         ..REFUSED
     },
     Case {
         name: "no record of what an outside device holds",
-        files: &[("q.toml", &[FOUR, T1, T2, L1, L2, S1, FIVE_LINKS])],
+        files: &[("q.toml", "four t1 t2 l1 l2 s1 links")],
         text: NO_RECORD_OF_T2,
         ..REFUSED
     },
     Case {
         name: "nothing emulated and no record",
-        files: &[("q.toml", &[NOTHING, T1, T2, L1, L2, S1, FIVE_LINKS])],
+        files: &[("q.toml", "none t1 t2 l1 l2 s1 links")],
         text: NO_RECORD,
         ..REFUSED
     },
     Case {
         name: "grown from nothing and no record",
-        files: &[(
-            "q.toml",
-            &[GROWN_FROM_NOTHING, T1, T2, L1, L2, S1, FIVE_LINKS],
-        )],
+        files: &[("q.toml", "grown-from-none t1 t2 l1 l2 s1 links")],
         text: NO_RECORD,
         ..REFUSED
     },
@@ -166,34 +142,25 @@ const BAD_NET: Case = Case {
 const BAD_NETS: &[Case] = &[
     Case {
         name: "a router id twice comes before what is wrong with a link",
-        files: &[(
-            "q.toml",
-            &[GROWN, T1, T2, L1, L2_SAME_ID, S1, FIVE_LINKS, L1_L2, RECORD],
-        )],
+        files: &[("q.toml", "grown t1 t2 l1 l2-same-id s1 links l1-l2 record")],
         text: "bad net: router id 10.0.1.1 twice: l1 l2\n",
         ..BAD_NET
     },
     Case {
         name: "one AS number at both ends of a link",
-        files: &[(
-            "q.toml",
-            &[GROWN, T1, T2, L1, L2, S1, FIVE_LINKS, L1_L2, RECORD],
-        )],
+        files: &[("q.toml", "grown t1 t2 l1 l2 s1 links l1-l2 record")],
         text: "bad net: same as number l1 l2\n",
         ..BAD_NET
     },
     Case {
         name: "an unknown name to emulate",
-        files: &[("q.toml", &[UNKNOWN, T1, T2, L1, L2, S1, FIVE_LINKS, RECORD])],
+        files: &[("q.toml", "unknown t1 t2 l1 l2 s1 links record")],
         text: "bad net: unknown name t9\n",
         ..BAD_NET
     },
     Case {
         name: "a record twice",
-        files: &[(
-            "q.toml",
-            &[GROWN, T1, T2, L1, L2, S1, FIVE_LINKS, RECORD, RECORD],
-        )],
+        files: &[("q.toml", "grown t1 t2 l1 l2 s1 links record record")],
         text: "bad net: record t2 10.1.2.0/24 twice\n",
         ..BAD_NET
     },
@@ -207,7 +174,13 @@ const UNBUILT: Case = Case {
 const UNBUILTS: &[Case] = &[
     Case {
         name: "an empty text",
-        files: &[("q.toml", &[])],
+        files: &[("q.toml", "")],
+        text: "not built yet: plan text\n",
+        ..UNBUILT
+    },
+    Case {
+        name: "an ORIGIN behind a prefix",
+        files: &[("q.toml", "all t1-origin t2 l1 l2 s1 links")],
         text: "not built yet: plan text\n",
         ..UNBUILT
     },
@@ -243,7 +216,7 @@ const UNBUILTS: &[Case] = &[
 
 // Words that are no listed form: no file is read.
 const MISUSE: Case = Case {
-    files: &[("q.toml", &[NOTHING]), ("s.toml", &[PULL])],
+    files: &[("q.toml", "none"), ("s.toml", "pull")],
     status: Status::Usage,
     calls: (0, 1),
     text: USAGE,

@@ -7,7 +7,7 @@ ghost use Rattle.cn_plan.specs.Selected.{named};
 use crate::build::{DeviceRow, LinkRow, device, draft, link, network, prefixes_from};
 use crate::nets::{FIVE, FIVE_LINKS, L1, L2, S1, T1, T2};
 use crate::opening::{RecordRow, devices, rows};
-use crate::words;
+use crate::words::{self, equal, same};
 use cn_net::{LinkDraft, Net};
 use cn_plan::{PlanAnswer, Selection, plan};
 use cn_record::Saved;
@@ -140,7 +140,7 @@ fn plans_are_made_or_refused(rt: HostRuntime) -> Result<(), Fail> {
     for (case, devices, links, selected, records, text) in CASES {
         let net = network(alloc, devices, links)?;
         let found = answer(alloc, net, selected, records)?;
-        assert_eq!(rt; found.as_str(), *text, "{case}");
+        same(&rt, case, &found, text);
     }
     Ok(())
 }
@@ -207,8 +207,8 @@ fn limits_are_told(rt: HostRuntime) -> Result<(), Fail> {
         let net = wide(rt.alloc(), *count, *linked, *prefixes)?;
         let found = answer_of_all(rt.alloc(), net)?;
         match text {
-            Some(text) => assert_eq!(rt; found.as_str(), *text, "{case}"),
-            None => assert!(rt; found.starts_with("emulated "), "{case}"),
+            Some(text) => same(&rt, case, &found, text),
+            None => equal(&rt, case, &found.starts_with("emulated "), &true),
         }
     }
     Ok(())

@@ -3,6 +3,7 @@
 
 use crate::build::{EntryRow, device_of, draft, link, list_of, peer, prefix, with_peers};
 use crate::nets::{L1, T1};
+use crate::words::same;
 use cn_base::{AsPath, Asn, DeviceId, Origin, Route};
 use cn_net::{DeviceDraft, Net, Policy};
 use std::alloc::Global;
@@ -108,7 +109,7 @@ fn policies_are_followed(rt: HostRuntime) -> Result<(), Fail> {
     for (case, export, prepend, import, up, text) in CASES {
         let net = net(alloc, *export, *prepend, *import, *up)?;
         let found = told(alloc, &net)?;
-        assert_eq!(rt; found.as_str(), *text, "{case}");
+        same(&rt, case, &found, text);
     }
     Ok(())
 }
@@ -121,7 +122,12 @@ fn devices_are_copied(rt: HostRuntime) -> Result<(), Fail> {
     for device in net.devices() {
         let copy = device.copy(alloc)?;
         let text = format!(in alloc; "{device:?}")?;
-        assert_eq!(rt; format!(in alloc; "{copy:?}")?.as_str(), text.as_str());
+        same(
+            &rt,
+            device.name.text(),
+            &format!(in alloc; "{copy:?}")?,
+            &text,
+        );
     }
     Ok(())
 }

@@ -3,7 +3,7 @@
 use crate::build::{DeviceRow, LinkRow, network, prefix};
 use crate::nets::{FIVE, FIVE_LINKS, L1, L2, S1, T1};
 use crate::opening::{RecordRow, certified, rows};
-use crate::words;
+use crate::words::{self, same};
 use cn_base::DeviceId;
 use cn_net::Net;
 use cn_record::{RecordWhy, Recorded, Saved, check};
@@ -125,7 +125,7 @@ fn tables_are_sound_or_not(rt: HostRuntime) -> Result<(), Fail> {
         let net = network(alloc, &FIVE, &FIVE_LINKS)?;
         let records = changed(alloc, TABLES, changes)?;
         let found = answer(alloc, net, "", &records)?;
-        assert_eq!(rt; found.as_str(), *text, "{case}");
+        same(&rt, case, &found, text);
     }
     Ok(())
 }
@@ -293,7 +293,7 @@ fn records_are_sound_or_not(rt: HostRuntime) -> Result<(), Fail> {
     for (case, devices, links, emulated, records, text) in CASES {
         let net = network(alloc, devices, links)?;
         let found = answer(alloc, net, emulated, records)?;
-        assert_eq!(rt; found.as_str(), *text, "{case}");
+        same(&rt, case, &found, text);
     }
     Ok(())
 }
@@ -349,7 +349,7 @@ fn repeated_rows_are_told(rt: HostRuntime) -> Result<(), Fail> {
     let net = network(rt.alloc(), &FIVE, &FIVE_LINKS)?;
     for (case, list, text) in SAVED {
         let found = repeated(rt.alloc(), &net, list)?;
-        assert_eq!(rt; found.as_str(), *text, "{case}");
+        same(&rt, case, &found, text);
     }
     Ok(())
 }

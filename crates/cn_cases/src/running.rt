@@ -1,74 +1,68 @@
 //! What `serial` answers, and the trace that it leaves.
 
 use crate::command_texts::*;
-use crate::commands::{ABSENT, Case, SERIAL, answer};
+use crate::commands::{Case, SERIAL, answer};
 use cn_top::Status;
 use std::test::Fail;
 
 const RUNS: &[Case] = &[
     Case {
         name: "a rack and a leaf, until nothing is left to do",
-        files: &[
-            ("q.toml", &[BOTH, T1, L1, T1_L1]),
-            ("s.toml", &[UNTIL_QUIET]),
-        ],
+        files: &[("q.toml", "both t1 l1 t1-l1"), ("s.toml", "until-quiet")],
         text: TABLES,
         left: &[
-            ("q.toml", &[BOTH, T1, L1, T1_L1]),
-            ("s.toml", &[UNTIL_QUIET]),
-            ("t.txt", &[TRACE]),
+            ("q.toml", "both t1 l1 t1-l1"),
+            ("s.toml", "until-quiet"),
+            ("t.txt", "trace"),
         ],
         ..SERIAL
     },
     Case {
         name: "a device has something to do at first",
-        files: &[
-            ("q.toml", &[ALL, T1, T2, L1, L2, S1, FIVE_LINKS]),
-            ("s.toml", &[PULL]),
-        ],
+        files: &[("q.toml", "all t1 t2 l1 l2 s1 links"), ("s.toml", "pull")],
         calls: (3, 1),
         text: "1 pull again device t1\n",
-        left: &[("t.txt", &["trace 1\nmark 1\n"])],
+        left: &[("t.txt", "trace-of-a-pull")],
         ..SERIAL
     },
     Case {
         name: "a device has something to do at first, beside a speaker",
         files: &[
-            ("q.toml", &[GROWN, T1, T2, L1, L2, S1, FIVE_LINKS, RECORD]),
-            ("s.toml", &[PULL]),
+            ("q.toml", "grown t1 t2 l1 l2 s1 links record"),
+            ("s.toml", "pull"),
         ],
         calls: (3, 1),
         text: "1 pull again device t1\n",
-        left: &[("t.txt", &["trace 1\nmark 1\n"])],
+        left: &[("t.txt", "trace-of-a-pull")],
         ..SERIAL
     },
     Case {
         name: "one event after another",
         files: &[
-            ("q.toml", &[ALL, T1, T2, L1, L2, S1, FIVE_LINKS]),
-            ("s.toml", &[ONE_BY_ONE]),
+            ("q.toml", "all t1 t2 l1 l2 s1 links"),
+            ("s.toml", "one-by-one"),
         ],
         calls: (3, 4),
         text: AGAIN,
-        left: &[("t.txt", &[TRACE_OF_ONE_BY_ONE])],
+        left: &[("t.txt", "trace-of-one-by-one")],
         ..SERIAL
     },
     Case {
         name: "one event after another, beside a speaker",
         files: &[
-            ("q.toml", &[GROWN, T1, T2, L1, L2, S1, FIVE_LINKS, RECORD]),
-            ("s.toml", &[ONE_BY_ONE]),
+            ("q.toml", "grown t1 t2 l1 l2 s1 links record"),
+            ("s.toml", "one-by-one"),
         ],
         calls: (3, 4),
         text: AGAIN,
-        left: &[("t.txt", &[TRACE_OF_ONE_BY_ONE])],
+        left: &[("t.txt", "trace-of-one-by-one")],
         ..SERIAL
     },
     Case {
         name: "beside a speaker, until nothing is left to do",
         files: &[
-            ("q.toml", &[GROWN, T1, T2, L1, L2, S1, FIVE_LINKS, RECORD]),
-            ("s.toml", &[UNTIL_QUIET]),
+            ("q.toml", "grown t1 t2 l1 l2 s1 links record"),
+            ("s.toml", "until-quiet"),
         ],
         text: FOUR_TABLES,
         ..SERIAL
@@ -76,11 +70,8 @@ const RUNS: &[Case] = &[
     Case {
         name: "the speaker doesn't announce what isn't its island's",
         files: &[
-            (
-                "q.toml",
-                &[GROWN, T1, T2, L1, L2, S1, FIVE_LINKS, RECORD, STALE_RECORD],
-            ),
-            ("s.toml", &[UNTIL_QUIET]),
+            ("q.toml", "grown t1 t2 l1 l2 s1 links record stale-record"),
+            ("s.toml", "until-quiet"),
         ],
         text: FOUR_TABLES,
         ..SERIAL
@@ -88,34 +79,31 @@ const RUNS: &[Case] = &[
     Case {
         name: "a speaker that owes its route is a pending device",
         files: &[
-            ("q.toml", &[LEAF, T1, L1, T1_L1, RECORD_OF_T1]),
-            ("s.toml", &[PULL_WORK_PULL]),
+            ("q.toml", "leaf t1 l1 t1-l1 record-of-t1"),
+            ("s.toml", "pull-work-pull"),
         ],
         calls: (3, 3),
         text: FROM_A_SPEAKER,
-        left: &[("t.txt", &[TRACE_FROM_A_SPEAKER])],
+        left: &[("t.txt", "trace-from-a-speaker")],
         ..SERIAL
     },
     Case {
         name: "a speaker's route is taken over",
         files: &[
-            ("q.toml", &[LEAF, T1, L1, T1_L1, RECORD_OF_T1]),
-            ("s.toml", &[STEP_BY_STEP]),
+            ("q.toml", "leaf t1 l1 t1-l1 record-of-t1"),
+            ("s.toml", "step-by-step"),
         ],
         calls: (3, 5),
         text: BESIDE_A_SPEAKER,
-        left: &[("t.txt", &[TRACE_BESIDE_A_SPEAKER])],
+        left: &[("t.txt", "trace-beside-a-speaker")],
         ..SERIAL
     },
     Case {
         name: "no commands",
-        files: &[
-            ("q.toml", &[BOTH, T1, L1, T1_L1]),
-            ("s.toml", &["version = 1\n"]),
-        ],
+        files: &[("q.toml", "both t1 l1 t1-l1"), ("s.toml", "no-commands")],
         calls: (3, 0),
         text: "",
-        left: &[("t.txt", &["trace 1\n"])],
+        left: &[("t.txt", "trace-of-nothing")],
         ..SERIAL
     },
 ];
@@ -123,9 +111,9 @@ const RUNS: &[Case] = &[
 // Of the rack and the leaf, with a trace that is there already.
 const OVER: Case = Case {
     files: &[
-        ("q.toml", &[BOTH, T1, L1, T1_L1]),
-        ("s.toml", &[UNTIL_QUIET]),
-        ("t.txt", &[OLDER, TRACE]),
+        ("q.toml", "both t1 l1 t1-l1"),
+        ("s.toml", "until-quiet"),
+        ("t.txt", "older trace"),
     ],
     text: TABLES,
     ..SERIAL
@@ -134,19 +122,19 @@ const OVER: Case = Case {
 const WRITTEN_OVER: &[Case] = &[
     Case {
         name: "a trace takes the place of a longer one",
-        left: &[("s.toml", &[UNTIL_QUIET]), ("t.txt", &[TRACE])],
+        left: &[("s.toml", "until-quiet"), ("t.txt", "trace")],
         ..OVER
     },
     Case {
         name: "TRACE is the file of the script",
         words: &["serial", "q.toml", "s.toml", "s.toml"],
-        left: &[("s.toml", &[TRACE]), ("t.txt", &[OLDER, TRACE])],
+        left: &[("s.toml", "trace"), ("t.txt", "older trace")],
         ..OVER
     },
     Case {
         name: "TRACE is the file of the plan",
         words: &["serial", "q.toml", "s.toml", "q.toml"],
-        left: &[("q.toml", &[TRACE]), ("t.txt", &[OLDER, TRACE])],
+        left: &[("q.toml", "trace"), ("t.txt", "older trace")],
         ..OVER
     },
 ];
@@ -155,65 +143,59 @@ const REFUSED: &[Case] = &[
     Case {
         name: "where the boundary is refused, the script isn't read, and an older trace stays",
         files: &[
-            ("q.toml", &[THREE, T1, T2, L1, L2, S1, FIVE_LINKS, RECORD]),
-            ("t.txt", &[OLDER]),
+            ("q.toml", "three t1 t2 l1 l2 s1 links record"),
+            ("t.txt", "older"),
         ],
         status: Status::Refused,
         calls: (1, 1),
         text: EMULATED_SIDE,
-        left: &[("t.txt", &[OLDER])],
+        left: &[("t.txt", "older")],
         ..SERIAL
     },
     Case {
         name: "TRACE is the file of a plan that is refused",
         words: &["serial", "q.toml", "s.toml", "q.toml"],
-        files: &[
-            ("q.toml", &[THREE, T1, T2, L1, L2, S1, FIVE_LINKS]),
-            ("s.toml", &[PULL]),
-        ],
+        files: &[("q.toml", "three t1 t2 l1 l2 s1 links"), ("s.toml", "pull")],
         status: Status::Refused,
         calls: (1, 1),
         text: EMULATED_SIDE,
-        left: &[("q.toml", &[THREE, T1, T2, L1, L2, S1, FIVE_LINKS])],
+        left: &[("q.toml", "three t1 t2 l1 l2 s1 links")],
         ..SERIAL
     },
     Case {
         name: "where a record isn't sound, no trace is written",
         files: &[
-            (
-                "q.toml",
-                &[GROWN, T1, T2, L1, L2, S1, FIVE_LINKS, WRONG_RECORD],
-            ),
-            ("s.toml", &[PULL]),
+            ("q.toml", "grown t1 t2 l1 l2 s1 links wrong-record"),
+            ("s.toml", "pull"),
         ],
         status: Status::Refused,
         calls: (1, 1),
         text: ANOTHER_PATH,
-        left: &[("t.txt", ABSENT)],
+        left: &[("t.txt", "nothing")],
         ..SERIAL
     },
     Case {
         name: "where the plan is no network, no trace is written",
         files: &[
-            ("q.toml", &[ALL, T1, T2, L1, L2, S1, FIVE_LINKS, L1_L2]),
-            ("s.toml", &[PULL]),
+            ("q.toml", "all t1 t2 l1 l2 s1 links l1-l2"),
+            ("s.toml", "pull"),
         ],
         status: Status::BadNet,
         calls: (1, 1),
         text: "bad net: same as number l1 l2\n",
-        left: &[("t.txt", ABSENT)],
+        left: &[("t.txt", "nothing")],
         ..SERIAL
     },
     Case {
         name: "a script in another form",
         files: &[
-            ("q.toml", &[BOTH, T1, L1, T1_L1]),
-            ("s.toml", &["version = 2\n"]),
+            ("q.toml", "both t1 l1 t1-l1"),
+            ("s.toml", "another-version"),
         ],
         status: Status::Unbuilt,
         calls: (2, 1),
         text: "not built yet: script text\n",
-        left: &[("t.txt", ABSENT)],
+        left: &[("t.txt", "nothing")],
         ..SERIAL
     },
 ];

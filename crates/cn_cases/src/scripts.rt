@@ -3,6 +3,7 @@
 use crate::build::{DeviceRow, LinkRow, network};
 use crate::nets::{FIVE, FIVE_LINKS, L1, S1, T1};
 use crate::opening::{RecordRow, recorded};
+use crate::words::same;
 use cn_core::Core;
 use cn_net::Net;
 use cn_readscript::read_script;
@@ -168,7 +169,7 @@ fn scripts_are_answered(rt: HostRuntime) -> Result<(), Fail> {
         let net = network(alloc, devices, links)?;
         let ran = ran(alloc, net, emulated, records, script)?;
         let found = answers(alloc, &ran, script)?;
-        assert_eq!(rt; found.as_str(), *text, "{case}");
+        same(&rt, case, &found, text);
     }
     Ok(())
 }
@@ -197,7 +198,7 @@ fn commands_are_answered_one_by_one(rt: HostRuntime) -> Result<(), Fail> {
     for (case, devices, links, emulated, records, script, text) in ANSWERS {
         let net = network(alloc, devices, links)?;
         let recorded = recorded(alloc, net, emulated, records)?;
-        assert_eq!(rt; told(alloc, recorded, script)?.as_str(), *text, "{case}");
+        same(&rt, case, &told(alloc, recorded, script)?, text);
     }
     Ok(())
 }
@@ -269,7 +270,7 @@ fn scripts_are_traced(rt: HostRuntime) -> Result<(), Fail> {
     for (case, devices, links, emulated, records, script, text) in TRACES {
         let net = network(alloc, devices, links)?;
         let ran = ran(alloc, net, emulated, records, script)?;
-        assert_eq!(rt; trace(alloc, &ran)?.as_str(), *text, "{case}");
+        same(&rt, case, &trace(alloc, &ran)?, text);
     }
     Ok(())
 }

@@ -3,6 +3,7 @@
 use crate::build::network;
 use crate::nets::{FIVE, FIVE_LINKS};
 use crate::opening::devices;
+use crate::words::{equal, same};
 use cn_base::DeviceId;
 use cn_net::{SessionEnds, SessionIndex};
 use std::alloc::Global;
@@ -44,12 +45,22 @@ fn sessions_ascend(rt: HostRuntime) -> Result<(), Fail> {
     index.valid();
     for (place, (from, to)) in ENDS.iter().enumerate() {
         let (from, to) = (DeviceId(*from), DeviceId(*to));
-        assert_eq!(rt; index.ends(place), Some(SessionEnds { from, to }));
-        assert_eq!(rt; index.place(from, to), Some(place));
+        equal(
+            &rt,
+            "ends",
+            &index.ends(place),
+            &Some(SessionEnds { from, to }),
+        );
+        equal(&rt, "place", &index.place(from, to), &Some(place));
     }
-    assert_eq!(rt; index.len(), 5);
-    assert_eq!(rt; index.ends(5), None);
-    assert_eq!(rt; index.place(DeviceId(0), DeviceId(3)), None);
+    equal(&rt, "all", &index.len(), &5);
+    equal(&rt, "behind all", &index.ends(5), &None);
+    equal(
+        &rt,
+        "no session",
+        &index.place(DeviceId(0), DeviceId(3)),
+        &None,
+    );
     Ok(())
 }
 
@@ -57,9 +68,11 @@ fn sessions_ascend(rt: HostRuntime) -> Result<(), Fail> {
 fn sessions_stand_by_their_ends(rt: HostRuntime) -> Result<(), Fail> {
     let index = index(rt.alloc())?;
     for (device, text) in PLACES {
-        assert_eq!(rt;
-            told(rt.alloc(), &index, DeviceId(*device))?.as_str(),
-            *text
+        same(
+            &rt,
+            text,
+            &told(rt.alloc(), &index, DeviceId(*device))?,
+            text,
         );
     }
     Ok(())

@@ -3,7 +3,7 @@
 use crate::build::network;
 use crate::nets::{L1, T1};
 use crate::opening::choice;
-use crate::words;
+use crate::words::{self, same};
 use cn_base::{DeviceId, Standing};
 use cn_core::{Pull, Step};
 use cn_net::Net;
@@ -22,7 +22,7 @@ const DONE: &[(u32, &str, &str)] = &[
 fn work_is_done(rt: HostRuntime) -> Result<(), Fail> {
     for (k, kind, text) in DONE {
         let found = String::from_utf8(print_done(rt.alloc(), *k, kind)?)?;
-        assert_eq!(rt; found.as_str(), *text);
+        same(&rt, kind, &found, text);
     }
     Ok(())
 }
@@ -54,7 +54,7 @@ fn pulled(alloc: Global, net: &Net, standing: Standing) -> Result<String, Fail> 
 fn pending_work_is_named(rt: HostRuntime) -> Result<(), Fail> {
     let net = network(rt.alloc(), &[T1, L1], &[])?;
     for (standing, text) in PENDING {
-        assert_eq!(rt; pulled(rt.alloc(), &net, *standing)?.as_str(), *text);
+        same(&rt, text, &pulled(rt.alloc(), &net, *standing)?, text);
     }
     Ok(())
 }
@@ -73,7 +73,7 @@ fn origins_have_words(rt: HostRuntime) -> Result<(), Fail> {
     for (origin, text) in ORIGINS {
         let held = choice(alloc, &net, "l1", "65102", origin)?;
         let found = words::choice(alloc, &net, Some(&held))?;
-        assert_eq!(rt; found.as_str(), *text);
+        same(&rt, origin, &found, text);
     }
     Ok(())
 }
@@ -82,6 +82,11 @@ fn origins_have_words(rt: HostRuntime) -> Result<(), Fail> {
 fn the_last_mark_is_traced(rt: HostRuntime) -> Result<(), Fail> {
     let net = network(rt.alloc(), &[T1, L1], &[])?;
     let text = write_trace(rt.alloc(), &net, &[Step::Mark { k: 10_000 }])?;
-    assert_eq!(rt; text.as_slice(), b"trace 1\nmark 10000\n".as_slice());
+    same(
+        &rt,
+        "a mark",
+        &String::from_utf8(text)?,
+        "trace 1\nmark 10000\n",
+    );
     Ok(())
 }

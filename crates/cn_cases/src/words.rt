@@ -1,4 +1,4 @@
-//! Answers in words.
+//! Answers in words, and whether they are those of a case.
 
 use cn_base::{Choice, DeviceId, Prefix};
 use cn_cert::Refusal;
@@ -7,7 +7,19 @@ use cn_record::Recorded;
 use cn_report::put_choice;
 use cn_text::put_prefix;
 use std::alloc::Global;
+use std::fmt::Debug;
+use std::process::Abort;
 use std::test::Fail;
+
+/// Stops, naming the case, where another text is found than its own.
+pub fn same(rt: &impl Abort, case: &str, found: &str, text: &str) {
+    assert_eq!(rt; found, text, "{case}");
+}
+
+/// Stops, naming the case, where another value is found than its own.
+pub fn equal<T: Debug + PartialEq>(rt: &impl Abort, case: &str, found: &T, value: &T) {
+    assert_eq!(rt; found, value, "{case}");
+}
 
 /// The name of a device, and a dash where there is no such device.
 pub fn name_of(net: &Net, device: DeviceId) -> &str {
