@@ -150,8 +150,8 @@ unsafe_wrong form before w opens told unsafe (of_command later i e) =
 
 -- ---- the lines of refusals
 
-module _ (form : Form) (before after : Scene) (w : Wrong) (whole : IsWhole before after (line_of w))
-    where
+module _ (form : Form) (before after : Scene) (w : Wrong)
+    (whole : IsWhole before after (line_of w)) where
   lined : (v : Wrong) → w ≡ v → IsWhole before after (line_of v)
   lined v e = subst (λ (x : Wrong). IsWhole before after (line_of x)) e whole
 
