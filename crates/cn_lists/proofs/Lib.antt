@@ -1,3 +1,4 @@
+pub mod Classical
 pub mod Finding
 pub mod Folding
 pub mod Halving

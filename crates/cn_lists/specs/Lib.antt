@@ -1,2 +1,3 @@
+pub mod Classical
 pub mod Segment
 pub mod Steps
