@@ -1,3 +1,4 @@
 pub mod Keyed
+pub mod Levels
 pub mod Prefixes
 pub mod Rows
