@@ -1,6 +1,8 @@
 -- How what can't be missing goes together. Other crates may cite this module.
-use Rattle.std.proofs.Common.{◌≡◌, ℕ, zero, suc, ◌+◌, ◌<◌, ◌≤◌, ◌⊎◌, Bool, true, false, List, [], ◌∷◌, length, Some, slice_get, refl, sym, ap, subst, inl, inr, arith}
-use Rattle.std.proofs.lemmas.Bool.{cases_lt}
+use Rattle.std.proofs.Common.{◌≡◌, ℕ, zero, suc, ◌+◌, ◌<◌, ◌≤◌, ◌⊎◌, Bool, true, false, List, [], ◌∷◌, length, Option, None, Some, slice_get, refl, sym, ◌∙◌, ap, subst, inl, inr, arith}
+use Rattle.std.specs.Bool.{Decides}
+use Rattle.std.proofs.lemmas.Bool.{cases_Bool, cases_lt, false≢true}
+use Rattle.std.proofs.lemmas.Option.{none-some, same_Some}
 use Rattle.cn_lists.specs.Classical.{Classically}
 
 -- ---- one after the other
@@ -16,6 +18,21 @@ and_then a follows missing = a (λ x. follows x missing)
 -- the same, where it is given outright
 pub with_found : {A B : Type 0} → Classically A → (A → B) → Classically B
 with_found a follows missing = a (λ x. missing (follows x))
+
+-- what a test tells is there where it can't be missing
+pub given_by_test : {A : Type 0} (test : Bool) → Decides test A → Classically A → A
+given_by_test test decides a = elim (cases_Bool test) [
+  | inl t ↦ decides.0 t
+  | inr f ↦ absurd (a (λ x. false≢true (sym f ∙ decides.1 x)))
+]
+
+-- options that can't be apart are one, where this is so of what they have
+pub same_option : {X : Type 0} → ((x y : X) → Classically (x ≡ y) → x ≡ y)
+    → (o q : Option X) → Classically (o ≡ q) → o ≡ q
+same_option same None None h = refl
+same_option same None (Some y) h = absurd (h (none-some y))
+same_option same (Some x) None h = absurd (h (λ e. none-some x (sym e)))
+same_option same (Some x) (Some y) h = ap Some (same x y (with_found h (same_Some x y)))
 
 -- everything is so or isn't
 pub settled : (A : Type 0) → Classically (A ⊎ (A → ⊥))
@@ -53,6 +70,21 @@ least_by {A} P size a p =
         → (m : A) × P m × ((b : A) → P b → size m ≤ size b)
     sized (k, (m, p, e), low) =
         (m, p, λ b q. subst (λ k. k ≤ size b) (sym e) (low (size b) (b, q, refl)))
+
+-- the same by two measures: by the second where the first doesn't tell
+pub least_by_two : {A : Type 0} (P : A → Type 0) (size size' : A → ℕ) (a : A) → P a
+    → Classically ((m : A) × P m
+    × ((b : A) → P b → (size b < size m) ⊎ ((size b ≡ size m) × (size' b < size' m)) → ⊥))
+least_by_two {A} P size size' a p =
+    and_then (least_by P size a p) (λ low.
+    with_found (least_by (λ b. P b × (size b ≡ size low.0)) size' low.0 (low.1, refl)) (λ m. (
+      m.0,
+      m.1.0,
+      λ b q before. elim before [
+        | inl under ↦ omega (arith, low.2 b q, m.1.1)
+        | inr tied ↦ omega (arith, tied.1, m.2 b (q, tied.0 ∙ m.1.1))
+      ],
+    )))
 
 -- a property of each number below n can't be missing at all of them, where at none it can
 pub each_below : (P : ℕ → Type 0) (n : ℕ) → ((k : ℕ) → k < n → Classically (P k))
