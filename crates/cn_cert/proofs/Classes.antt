@@ -122,12 +122,9 @@ module _ (net : Network) (outside : DeviceId → Bool) (x y : DeviceId → Optio
     first = λ s q b. h.first s (refusal_too net outside y x (same_islands_back net x y same) s q) b;
   }
 
--- ---- islands that are labelled by their least devices
-
-module _ (net : Network) (outside : DeviceId → Bool) (name : DeviceId → Option DeviceId)
-    (names : AreNames net name) where
+module _ (net : Network) (outside : DeviceId → Bool) (name : DeviceId → Option DeviceId) where
   -- some device of the island that is refused
-  some_member : (i : DeviceId) (r : Refusal) → Refuses net outside name i r
+  pub some_member : (i : DeviceId) (r : Refusal) → Refuses net outside name i r
       → (d : DeviceId) × IsDevice net d × (name d ≡ Some i)
   some_member i (Facing Emulated named a a_asn b b_asn) (h, is_a, is_b) =
       let f = h.least.one in (f.peer, f.peer_is_device, f.in_island)
@@ -136,6 +133,10 @@ module _ (net : Network) (outside : DeviceId → Bool) (name : DeviceId → Opti
   some_member i (Origins named p inside elsewhere) h =
       let o = h.inside_least.one in (inside, o.originates.0, o.label_is)
 
+-- ---- islands that are labelled by their least devices
+
+module _ (net : Network) (outside : DeviceId → Bool) (name : DeviceId → Option DeviceId)
+    (names : AreNames net name) where
   named_by : (r : Refusal) → IsRefusal net outside name r → Refuses net outside name (island_of r) r
   named_by r h =
       let d = island_of r in
@@ -149,7 +150,7 @@ module _ (net : Network) (outside : DeviceId → Bool) (name : DeviceId → Opti
   pub first_by_name : (r : Refusal) → IsFirstNamed net outside name r
       → IsFirstRefusal net outside name r
   first_by_name r h =
-      let m = some_member (island_of r) r h.refuses in
+      let m = some_member net outside name (island_of r) r h.refuses in
       record {
         refusal = record {
           island = island_of r;

@@ -8,3 +8,4 @@ pub mod Prefixes
 pub mod Shares
 pub mod Orders
 pub mod Classes
+pub mod There

@@ -75,6 +75,13 @@ is_island : (x : Option DeviceId) (i : DeviceId) → x ≡ Some i
 is_island None i e = absurd (none-some i e)
 is_island (Some x) i e = number_itself x i (same_Some x i e)
 
+-- a label that can't differ from an island's is that island's
+pub in_or_not : (x : Option DeviceId) (i : DeviceId) → (x ≢ Some i → ⊥) → x ≡ Some i
+in_or_not x i h = elim (cases_Bool (option_eq same_device x (Some i))) [
+  | inl t ↦ island_is x i t
+  | inr f ↦ absurd (h (λ e. true≢false (sym (is_island x i e) ∙ f)))
+]
+
 module _ (name : DeviceId → Option DeviceId) (i : DeviceId) (p : Cidr) (m : Member Cidr) where
   elsewhere_is : is_elsewhere name i p m ≡ true → (m.key ≡ p) × (name m.device ≢ Some i)
   elsewhere_is t =
@@ -211,17 +218,10 @@ module _ (net : Network) (name : DeviceId → Option DeviceId) (list : List (Mem
       (split_of p x d hx.originates hd.originates (λ e. hx.label_is_not (e ∙ hd.label_is))) hd
 
   pub own_prefixes : length placed ≡ 0 → HaveOwnPrefixes net name
-  own_prefixes none i d x p is od ox =
-      elim (cases_Bool (option_eq same_device (name x) (Some i))) [
-        | inl t ↦ island_is (name x) i t
-        | inr f ↦
-            let elsewhere : OriginatesElsewhere net name i p x = record {
-              label_is_not = λ e. true≢false (sym (is_island (name x) i e) ∙ f);
-              originates = ox;
-            } in
-            let h = placed_both i p d x (record { label_is = is; originates = od }) elsewhere in
-            absurd (omega (arith, h.1, none))
-      ]
+  own_prefixes none i d x p is od ox = in_or_not (name x) i (λ ne.
+      let h = placed_both i p d x (record { label_is = is; originates = od })
+      (record { label_is_not = ne; originates = ox }) in
+      omega (arith, h.1, none))
 
   module _ (first : Member (DeviceId × Cidr)) (some : 0 < length placed)
       (first_is : get_or placed 0 first ≡ first) where
@@ -250,17 +250,12 @@ module _ (net : Network) (name : DeviceId → Option DeviceId) (list : List (Mem
     pub has_elsewhere : find (is_elsewhere name island prefix) list ≡ None → ⊥
     has_elsewhere none =
         let s = apart_of prefix first_in.0 in
-        let inside = λ (d : DeviceId) (o : Originates net d prefix). in_or_not (name d) (λ ne.
+        let inside = λ (d : DeviceId) (o : Originates net d prefix).
+        in_or_not (name d) island (λ ne.
         not_found (is_elsewhere name island prefix) list (member prefix d) none
         ((origins.exactly prefix d).1 o)
         (is_elsewhere_so name island prefix (member prefix d) refl ne)) in
         s.apart (inside s.x s.x_originates ∙ sym (inside s.y s.y_originates))
-      where
-        in_or_not : (o : Option DeviceId) → (o ≢ Some island → ⊥) → o ≡ Some island
-        in_or_not o h = elim (cases_Bool (option_eq same_device o (Some island))) [
-          | inl t ↦ island_is o island t
-          | inr f ↦ absurd (h (λ e. true≢false (sym (is_island o island e) ∙ f)))
-        ]
 
     module _ (outside : DeviceId → Bool) (other : Member Cidr)
         (second : find (is_elsewhere name island prefix) list ≡ Some other) where

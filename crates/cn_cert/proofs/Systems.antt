@@ -36,7 +36,7 @@ same_asn : (x y : Asn) → x.0 ≡ y.0 → x ≡ y
 same_asn x y e = λ i. record { 0 = e i }
 
 -- two numbers that can't be told apart are one
-same_or_not : (x y : Asn) → (x ≢ y → ⊥) → x ≡ y
+pub same_or_not : (x y : Asn) → (x ≢ y → ⊥) → x ≡ y
 same_or_not x y h = elim (cases_Bool (eqb x.0 y.0)) [
   | inl t ↦ same_asn x y (eqb-true x.0 y.0 t)
   | inr f ↦ absurd (h (λ e. eqb-false x.0 y.0 f (ap (λ z. z.0) e)))
