@@ -15,3 +15,4 @@ pub mod Parts
 pub mod Originating
 pub mod Sorting
 pub mod Turns
+pub mod There
