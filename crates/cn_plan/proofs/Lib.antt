@@ -4,3 +4,4 @@ pub mod OneFault
 pub mod SameRows
 pub mod Rows
 pub mod Steps
+pub mod There

@@ -1,9 +1,13 @@
 //! Laws of the definitions. Each function does nothing; its contract is the law.
 
-ghost use Rattle.std.specs.Prelude.{◌≡◌, Bool, List};
+ghost use Rattle.std.specs.Prelude.{◌≡◌, ◌⊎◌, Bool, All, List};
+ghost use Rattle.cn_lists.specs.Classical.{Classically};
 ghost use Rattle.cn_base.specs.declared.ids.DeviceId.{DeviceId};
-ghost use Rattle.cn_net.specs.Network.{Network};
-ghost use Rattle.cn_plan.specs.Boundary.{BoundaryFault, IsFirstFault, IsSafe, IsUnsafe};
+ghost use Rattle.cn_net.specs.Islands.{IsAscending, outside_of};
+ghost use Rattle.cn_net.specs.Network.{Network, IsDevice};
+ghost use Rattle.cn_net.specs.Opening.{Opening};
+ghost use Rattle.cn_net.specs.Valid.{IsValid};
+ghost use Rattle.cn_plan.specs.Boundary.{BoundaryFault, IsFirstFault, IsSafe, IsSafeOpening, IsUnsafe};
 ghost use Rattle.cn_plan.specs.Planned.{AnswersPlan, IsPlan};
 ghost use Rattle.cn_plan.specs.declared.answer.PlanAnswer.{PlanAnswer};
 ghost use Rattle.cn_plan.specs.declared.answer.PlanAnswer.TheVariants.{Memory};
@@ -33,4 +37,13 @@ pub fn plan_or_answer()
 pub fn first_fault_is_one()
     ensures { (net : Network) (outside : DeviceId → Bool) (rows : List Row) (f g : BoundaryFault)
         → IsFirstFault net outside rows f → IsFirstFault net outside rows g → f ≡ g }
+{}
+
+/// A boundary of a valid network has a safe opening or a first fault: it can't be that neither is
+/// there. So it has exactly one of them, and the fault is one, by the laws above.
+pub fn opening_or_first_fault()
+    ensures { (net : Network) (set : List DeviceId) (rows : List Row)
+        → IsValid net → All (IsDevice net) set → IsAscending set
+        → Classically (((o : Opening) × IsSafeOpening net (outside_of set) rows o)
+        ⊎ ((fault : BoundaryFault) × IsFirstFault net (outside_of set) rows fault)) }
 {}
