@@ -1,10 +1,8 @@
 -- A boundary has a safe opening or a first fault: one of them always is there, in the sense of
 -- classical logic. Other crates may cite this module.
-use Rattle.std.proofs.Common.{◌≡◌, ◌⊎◌, List, Option, length, refl, sym, inl, inr, All}
-use Rattle.std.specs.List.Sorted.{IsPermutation}
+use Rattle.std.proofs.Common.{◌≡◌, ◌⊎◌, List, Option, length, refl, inl, inr, All}
 use Rattle.cn_lists.specs.Classical.{Classically}
 use Rattle.cn_lists.proofs.Classical.{and_then, given, settled, with_found}
-use Rattle.cn_base.specs.Cidr.{Cidr}
 use Rattle.cn_base.specs.declared.ids.DeviceId.{DeviceId}
 use Rattle.cn_net.specs.Certificate.{IsCertified}
 use Rattle.cn_net.specs.Islands.{IsAscending, IsIslands, label_of, outside_of}
@@ -14,13 +12,10 @@ use Rattle.cn_net.specs.Valid.{IsValid}
 use Rattle.cn_net.proofs.Chains.{islands_labelling}
 use Rattle.cn_island.proofs.There.{islands_there}
 use Rattle.cn_cert.proofs.There.{refusal_there}
-use Rattle.cn_record.specs.Recorded.{IsRecorded, SaysSound}
-use Rattle.cn_record.specs.Rows.{AscendsByPair, IsRepeated}
+use Rattle.cn_record.specs.Recorded.{SaysSound}
 use Rattle.cn_record.specs.declared.saved.Row.{Row}
 use Rattle.cn_record.proofs.There.{unsound_there}
 use Rattle.cn_plan.specs.Boundary.{BoundaryFault, IsCertifiedOpening, IsFirstFault, IsSafeOpening, of_certificate, of_record}
-use Rattle.cn_plan.proofs.Rows.{safe_alike}
-use Rattle.cn_plan.proofs.SameRows.{same_rows}
 
 module _ (net : Network) (set : List DeviceId) (rows : List Row) (valid : IsValid net)
     (within : All (IsDevice net) set) (ascending : IsAscending set) where
@@ -74,13 +69,3 @@ module _ (net : Network) (set : List DeviceId) (rows : List Row) (valid : IsVali
       and_then (islands_there net (outside_of set)) (λ found.
       and_then (settled (IsCertified net (outside_of set) (label_of found.0)))
       (certified_or_not found.0 found.1 found.2))
-
--- a safe opening is recorded by the same rows in their order
-pub recorded_in_order : (net : Network) (set : List DeviceId) (rows saved : List Row) (o : Opening)
-    → IsSafeOpening net (outside_of set) rows o → IsPermutation rows saved
-    → ((d : DeviceId) (p : Cidr) → IsRepeated rows d p → ⊥) → AscendsByPair saved
-    → IsRecorded (record { opening = o; rows = saved })
-recorded_in_order net set rows saved o safe moved once up =
-    let same = same_rows rows saved moved once in
-    let saves = safe_alike net (outside_of set) rows saved o (sym same) safe in
-    record { opening = safe.certified.opening; ascending = up; sound = saves.sound }
