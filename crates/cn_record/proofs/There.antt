@@ -83,10 +83,10 @@ before_parts : (d x : DeviceId) (p q : Cidr) → StandsBefore d p x q
 before_parts d x p q h = grind (arith, nat_tests)
 
 -- of devices and prefixes with a property, where some are given, some stand first
-pub first_pair : (P : DeviceId → Cidr → Type 0) (d : DeviceId) (p : Cidr) → P d p
+least_pair : (P : DeviceId → Cidr → Type 0) (d : DeviceId) (p : Cidr) → P d p
     → Classically ((e : DeviceId) × (q : Cidr) × P e q
     × ((x : DeviceId) (r : Cidr) → P x r → StandsBefore x r e q → ⊥))
-first_pair P d p h =
+least_pair P d p h =
     and_then (least_by Held (λ x. x.0) d (p, h)) (λ low.
     let m = low.0 in
     with_found
@@ -142,7 +142,7 @@ module _ (o : Opening) (rows : List Row) (valid : IsValid o.net) where
       × (wanted : Option Choice) × IsFirstUnsound o rows d p held wanted)
   unsound_there unsound =
       and_then (some_unsound unsound) (λ some.
-      with_found (first_pair (IsUnsound o rows) some.0 some.1 some.2) (λ first.
+      with_found (least_pair (IsUnsound o rows) some.0 some.1 some.2) (λ first.
       let d = first.0 in
       let p = first.1 in (
         d,
