@@ -32,6 +32,3 @@ pub use rank::Rank;
 pub use route::{Attributes, Choice, Route};
 pub use standing::Standing;
 pub use table::{Table, TableRow};
-
-#[cfg(test)]
-mod tests;

@@ -15,6 +15,3 @@
 mod segment;
 
 pub use segment::{item_at, part_at, place_at, places_at};
-
-#[cfg(test)]
-mod tests;

@@ -10,6 +10,3 @@
 mod mailbox;
 
 pub use mailbox::Mailbox;
-
-#[cfg(test)]
-mod tests;

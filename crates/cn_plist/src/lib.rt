@@ -14,9 +14,6 @@ use cn_base::{Entry, Prefix};
 use std::alloc::{AllocError, Global};
 use std::marker::Model;
 
-#[cfg(test)]
-mod tests;
-
 /// Entries of which the first that matches a prefix decides. Contracts see the list of the entries.
 #[derive(Debug, Drop)]
 pub struct PrefixList {

@@ -22,6 +22,3 @@ mod tally;
 pub use prefix_map::{PrefixMap, Row};
 pub use prefix_set::PrefixSet;
 pub use tally::Tally;
-
-#[cfg(test)]
-mod tests;

@@ -27,6 +27,3 @@ pub use message::decode;
 pub use size::{attrs_size, fits, prefix_size};
 pub use update::{Attrs, Update};
 pub use writing::encode;
-
-#[cfg(test)]
-mod tests;
