@@ -5,3 +5,4 @@ pub mod Halving
 pub mod Loops
 pub mod Order
 pub mod Segments
+pub mod Sorts
