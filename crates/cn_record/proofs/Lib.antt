@@ -13,6 +13,7 @@ pub mod Saying
 pub mod Numbers
 pub mod Parts
 pub mod Originating
+pub mod Repeating
 pub mod Sorting
 pub mod Turns
 pub mod There
