@@ -5,3 +5,4 @@ pub mod SameRows
 pub mod Rows
 pub mod Steps
 pub mod There
+pub mod PlanThere

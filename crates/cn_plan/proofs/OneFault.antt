@@ -189,7 +189,8 @@ module _ (net : Network) (emulated : List DeviceId) (rows : List Row) where
 
 -- ---- the first fault
 
-not_alike : (a b : Bool) → not a ≡ not b → a ≡ true → b ≡ true
+-- a test whose turn is another test's passes where that does
+pub not_alike : (a b : Bool) → not a ≡ not b → a ≡ true → b ≡ true
 not_alike true true e t = refl
 not_alike true false e t = absurd cc
 not_alike false b e t = absurd cc
