@@ -1,5 +1,7 @@
+pub mod Known
 pub mod Names
 pub mod Selections
+pub mod There
 pub mod OneEmulation
 pub mod OneOpening
 pub mod OnePlanFault

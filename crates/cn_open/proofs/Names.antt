@@ -17,6 +17,7 @@ use Rattle.cn_net.specs.Drafted.{device_draft, draft_of}
 use Rattle.cn_net.specs.Network.{Network, IsDevice, name_of}
 use Rattle.cn_net.specs.declared.device.Device.{Device}
 use Rattle.cn_net.specs.declared.draft.DeviceDraft.{DeviceDraft}
+use Rattle.cn_open.specs.Emulation.{IsBorne}
 use Rattle.cn_open.specs.Faults.{first_unknown, is_written}
 use Rattle.cn_open.specs.Steps.{IsFirstUnknown, TellsUnknown}
 use Rattle.cn_open.specs.declared.fault.NameAnswer.{NameAnswer}
@@ -148,16 +149,21 @@ module _ (net : Network) (name : List ℕ) where
         | inr r ↦ absurd (omega (arith, r.0, is))
       ]
 
-  pub unwritten : ((d : DeviceId) → IsDevice net d → name_of net d ≢ name)
-      → is_written (draft_of net) name ≡ false
+  -- what is written is the name of a device
+  pub borne : is_written (draft_of net) name ≡ true → IsBorne net name
   unfolding bears
-  unwritten none =
-      false_from_ne_true (is_written (draft_of net) name) (λ t.
+  borne t =
       let at = Any-from_list_any bears net.devices (sym by_devices ∙ t) in
       let d : DeviceId = record { 0 = at.0 } in
       let e : slice_get net.devices at.0 ≡ Some at.1 =
       slice_get-get_or net.devices at.0 at.1 at.2 ∙ ap Some at.3 in
-      none d at.2 (name_at net d at.1 e ∙ (bytes_eq-Decides at.1.name name).0 at.4))
+      (d, at.2, name_at net d at.1 e ∙ (bytes_eq-Decides at.1.name name).0 at.4)
+
+  pub unwritten : ((d : DeviceId) → IsDevice net d → name_of net d ≢ name)
+      → is_written (draft_of net) name ≡ false
+  unwritten none =
+      false_from_ne_true (is_written (draft_of net) name)
+      (λ t. let b = borne t in none b.0 b.1 b.2)
 
 -- what a look for one name tells
 module _ (net : Network) (name : List ℕ) where
