@@ -12,8 +12,9 @@ use Rattle.cn_core.specs.declared.message.Message.{Message}
 use Rattle.cn_core.specs.declared.session.Rib.{Rib}
 use Rattle.cn_core.specs.declared.session.Session.{Session}
 use Rattle.cn_core.specs.Machine.{can, decided, put_out, receive, send, with_dirty, taken_in, with_rib, with_session}
+use Rattle.cn_core.specs.Owed.{owed, owed_by, owes}
 use Rattle.cn_core.specs.Parts.{put_out_if, received, received_of, with_all_dirty}
-use Rattle.cn_core.specs.State.{CoreState, empty_rib, empty_session, is_session, owed, owed_by, prefix_of, rib, session}
+use Rattle.cn_core.specs.State.{CoreState, empty_rib, empty_session, is_session, prefix_of, rib, session}
 use Rattle.cn_core.specs.Whole.{IsNowhere, IsPlaceOf, IsWhole}
 use Rattle.cn_core.proofs.Access.{ends_are, found_has}
 use Rattle.cn_core.proofs.Places.{changed_at, not_found, session_at}
@@ -181,10 +182,10 @@ found_session s a b x e = ap (λ o. unwrap_or o (empty_session a b)) e
 
 pub can_send_found : (s : CoreState) (a b : DeviceId) (x : Session)
     → find (is_session a b) s.sessions ≡ Some x
-    → (is_some (owed_by s x) && nat_lt (length x.mail) 64) ≡ can s (Send a b)
+    → (owes s x && nat_lt (length x.mail) 64) ≡ can s (Send a b)
 can_send_found s a b x e =
     (λ i. is_some (sym e i) &&
-    (is_some (owed_by s (sym (found_session s a b x e) i)) && nat_lt
+    (owes s (sym (found_session s a b x e) i) && nat_lt
     (length (sym (found_session s a b x e) i).mail) 64))
 
 pub found_to_send : (s : CoreState) (a b : DeviceId) → IsTrue (can s (Send a b))
@@ -192,7 +193,7 @@ pub found_to_send : (s : CoreState) (a b : DeviceId) → IsTrue (can s (Send a b
 found_to_send s a b h n =
     true≢false (sym
     (first_true (is_some (find (is_session a b) s.sessions))
-    (is_some (owed_by s (session s a b)) && nat_lt (length (session s a b).mail) 64) h)
+    (owes s (session s a b) && nat_lt (length (session s a b).mail) 64) h)
     ∙ ap is_some (not_found a b s.sessions n))
   where
     first_true : (p q : Bool) → (p && q) ≡ true → p ≡ true

@@ -15,7 +15,8 @@ use Rattle.cn_core.specs.declared.session.Session.{Session}
 use Rattle.cn_core.specs.Laws.{FirstLaw, IsKept}
 use Rattle.cn_core.specs.Machine.{can, state}
 use Rattle.cn_core.specs.Order.{IsQuiet, device_event, first_event, first_of, first_pending, has_mail, is_pending, owes_from, receive_over, send_over}
-use Rattle.cn_core.specs.State.{CoreState, owed_by, rib, session}
+use Rattle.cn_core.specs.Owed.{owes}
+use Rattle.cn_core.specs.State.{CoreState, rib, session}
 use Rattle.cn_core.proofs.Access.{and_parts}
 use Rattle.cn_core.proofs.Kept.{run_holds}
 use Rattle.cn_core.proofs.Searches.{IsApart, apart, found_apart, found_one, found_passes, none_passes, session_found}
@@ -27,17 +28,16 @@ can_send : (s : CoreState) (d : DeviceId) (x : Session) → IsApart s.sessions
     → IsTrue (can s (Send x.from x.to))
 can_send s d x apart none e =
     let at = session_found (owes_from s d) s x apart e in
-    let owes =
-    (and_parts (same_device x.from d) (is_some (owed_by s x))
+    let some =
+    (and_parts (same_device x.from d) (owes s x)
     (found_passes (owes_from s d) s.sessions x e)).1 in
     let empty =
     found_one (λ y. has_mail y ≡ false) (owes_from s d) s.sessions x
     (none_passes has_mail s.sessions none) e in
     ap (λ o. is_some o &&
-    (is_some (owed_by s (session s x.from x.to)) && nat_lt (length (session s x.from x.to).mail)
-    64)) (found_apart (owes_from s d) s.sessions x apart e)
-    ∙ ap (λ (y : Session). is_some (owed_by s y) && nat_lt (length y.mail) 64) at
-    ∙ ap (λ b. b && nat_lt (length x.mail) 64) owes ∙ room (length x.mail) empty
+    (owes s (session s x.from x.to) && nat_lt (length (session s x.from x.to).mail) 64)) (found_apart (owes_from s d) s.sessions x apart e)
+    ∙ ap (λ (y : Session). owes s y && nat_lt (length y.mail) 64) at
+    ∙ ap (λ b. b && nat_lt (length x.mail) 64) some ∙ room (length x.mail) empty
   where
     room : (l : ℕ) → nat_lt 0 l ≡ false → nat_lt l 64 ≡ true
     room l e = grind (arith, nat_tests)

@@ -11,9 +11,11 @@ use Rattle.cn_base.specs.Cidr.{Cidr, same_prefix}
 use Rattle.cn_base.specs.Table.{prefix_cmp}
 use Rattle.cn_base.specs.declared.ids.DeviceId.{DeviceId}
 use Rattle.cn_base.specs.declared.route.Choice.{Choice}
+use Rattle.cn_rib.specs.PrefixMaps.{put_at}
 use Rattle.cn_rib.specs.PrefixSet as prefixes
 use Rattle.cn_base.specs.declared.route.Attributes.{Attributes}
-use Rattle.cn_rib.proofs.Keyed.{contains-empty, contains-remove, get_inserted, get_removed, inserted_elsewhere, not_inserted, removed_elsewhere}
+use Rattle.cn_rib.proofs.Keyed.{contains-empty, contains-remove, inserted_elsewhere, not_inserted, removed_elsewhere}
+use Rattle.cn_rib.proofs.PrefixMaps.{get-put_at}
 use Rattle.cn_rib.proofs.Prefixes.{same_tells}
 use Rattle.cn_net.specs.Candidates.{best_of}
 use Rattle.cn_net.specs.Islands.{holds_device}
@@ -29,9 +31,10 @@ use Rattle.cn_core.specs.declared.message.Message.TheVariants.{Withdraw, Announc
 use Rattle.cn_core.specs.declared.session.Rib.{Rib}
 use Rattle.cn_core.specs.declared.session.Session.{Session}
 use Rattle.cn_core.specs.Laws.{CleanIsDecided, IsKept, IsSpeaking, RunLaw, SpeakersSay, ends_of, held_in, links_into}
-use Rattle.cn_core.specs.Machine.{IsEnabled, IsRun, IsRunFrom, came_at, can, decide, put_choice, put_out, receive, send, with_dirty, state, step, taken_in, with_rib, with_session}
+use Rattle.cn_core.specs.Machine.{IsEnabled, IsRun, IsRunFrom, came_at, can, decide, put_out, receive, send, with_dirty, state, step, taken_in, with_rib, with_session}
+use Rattle.cn_core.specs.Owed.{next_message, owed_by}
 use Rattle.cn_core.specs.Start.{start}
-use Rattle.cn_core.specs.State.{CoreState, apply, apply_all, empty_session, is_session, owed_by, prefix_of, rib, session}
+use Rattle.cn_core.specs.State.{CoreState, apply, apply_all, empty_session, is_session, prefix_of, rib, session}
 use Rattle.cn_core.proofs.Access.{KeepsEnds, all_at_first, came_kept, came_of_rib, ends_are, ends_kept, found_has, found_is, rib_of_session, rib_other, rib_past, rib_same}
 use Rattle.cn_core.proofs.Ends.{all_by_ends, links_emulated, links_within}
 use Rattle.cn_core.proofs.Opened.{kept_start}
@@ -308,11 +311,6 @@ dirty_in_range s d p e =
           ∙ contains-empty p))
     ]
 
-get_put : (x : FinMap prefix_cmp Choice) (p : Cidr) (c : Option Choice) (q : Cidr)
-    → fin.get (put_choice x p c) q ≡ cond (same_prefix q p) c (fin.get x q)
-get_put x p None q = get_removed x p q
-get_put x p (Some c) q = get_inserted x p c q
-
 module _ (o : Opening) (s : CoreState) (k : CleanIsDecided o s) (d : DeviceId) (p : Cidr)
     (e : prefixes.contains (rib s d).dirty p ≡ true) where
   best_at : Option Choice
@@ -320,7 +318,7 @@ module _ (o : Opening) (s : CoreState) (k : CleanIsDecided o s) (d : DeviceId) (
 
   result_of : Rib
   result_of = record {
-    best = put_choice (rib s d).best p best_at;
+    best = put_at (rib s d).best p best_at;
     dirty = prefixes.remove (rib s d).dirty p;
   }
 
@@ -335,7 +333,7 @@ module _ (o : Opening) (s : CoreState) (k : CleanIsDecided o s) (d : DeviceId) (
             ∙ rib_same s d result_of (dirty_in_range s d p e) in
             elim (same_tells q p) [
               | inl hit ↦
-                  ap (λ (y : Rib). fin.get y.best q) at_d ∙ get_put (rib s d).best p best_at q
+                  ap (λ (y : Rib). fin.get y.best q) at_d ∙ get-put_at (rib s d).best p best_at q
                   ∙ ap (λ t. cond t best_at (fin.get (rib s d).best q)) hit.0
                   ∙ ap (λ z. best_of s.net (came_at s d z) d z) (sym hit.1)
                   ∙ ap (λ z. best_of s.net (came_at s z q) z q) (sym same)
@@ -344,7 +342,7 @@ module _ (o : Opening) (s : CoreState) (k : CleanIsDecided o s) (d : DeviceId) (
               | inr miss ↦
                   decided_at o s (with_rib s d result_of) i q result_of net at_d
                   (came_of_rib s i q d result_of)
-                  (get_put (rib s d).best p best_at q
+                  (get-put_at (rib s d).best p best_at q
                   ∙ ap (λ t. cond t best_at (fin.get (rib s d).best q)) miss.0
                   ∙ ap (λ z. fin.get (rib s z).best q) (sym same))
                   (λ c. ap (λ z. prefixes.contains (rib s z).dirty q) same
@@ -407,7 +405,7 @@ pub kept_step : (r : RecordedOpening) (s : CoreState) → IsKept r s → (e : St
 kept_step r s k (Work (Receive a b)) h = kept_receive r s k a b (session s a b).mail refl
 kept_step r s k (Work (Decide d p)) h = kept_decided r s k d p h
 kept_step r s k (Work (Send a b)) h =
-    kept_send r s k a b (owed_by s (session s a b)) (room_to_send s a b h)
+    kept_send r s k a b (next_message (owed_by s (session s a b))) (room_to_send s a b h)
 kept_step r s k (Mark i) h = k
 
 pub kept_run : (r : RecordedOpening) (s : CoreState) → IsKept r s → (h : List Step) → IsRunFrom s h

@@ -1,6 +1,7 @@
 pub mod Access
 pub mod Ends
-pub mod Owing
+pub mod Owes
+pub mod OwedLists
 pub mod Offers
 pub mod Opened
 pub mod Kept

@@ -1,6 +1,6 @@
 -- What is offered of a choice, in the words of the network.
-use Rattle.std.proofs.Common.{◌≡◌, Bool, true, false, Option, Some, None, refl, sym, ap, ◌∙◌, true≢false}
-use Rattle.std.specs.Prelude.{◌↔◌, IsTrue, is_none, is_some, not, option_map}
+use Rattle.std.proofs.Common.{◌≡◌, true, false, Option, Some, None, refl, sym, ap, ◌∙◌, true≢false}
+use Rattle.std.specs.Prelude.{is_some, option_map}
 use Rattle.std.proofs.lemmas.Option.{same_Some}
 use Rattle.cn_base.specs.Cidr.{Cidr}
 use Rattle.cn_base.specs.declared.ids.DeviceId.{DeviceId}
@@ -12,86 +12,68 @@ use Rattle.cn_net.specs.Network.{Network}
 use Rattle.cn_net.specs.Stable.{offer_of, route_of}
 use Rattle.cn_net.proofs.Offering.{offer-gives}
 use Rattle.cn_core.specs.Machine.{route_with}
-use Rattle.cn_core.specs.State.{attributes_of, is_news, offered_attributes, same_attributes}
-use Rattle.cn_core.proofs.Owing.{attributes_themselves, same_attributes_are}
+use Rattle.cn_core.specs.declared.owed.Due.TheVariants.{Nothing, Announcement}
+use Rattle.cn_core.specs.Owed.{attributes_of, offered_attributes, unless_sent}
+use Rattle.cn_core.specs.OwedLists.{due_of}
+use Rattle.cn_core.proofs.Access.{none_if}
+use Rattle.cn_core.proofs.Owes.{unless_sent-other, unless_sent-same}
 
-pub offered_none : (net : Network) (a b : DeviceId) (p : Cidr)
-    → offered_attributes net a b p None ≡ None
-unfolding offered_attributes offer_of
-offered_none net a b p = refl
-
+-- what is offered of a choice is what the network offers of its route
 pub offered_some : (net : Network) (a b : DeviceId) (p : Cidr) (c : Choice)
     → offered_attributes net a b p (Some c) ≡ option_map attributes_of
     (offer net a b (route_of p c))
 unfolding offered_attributes offer_of
 offered_some net a b p c = refl
 
-none_mapped : (o : Option Route) → is_none (option_map attributes_of o) ≡ not (is_some o)
-none_mapped None = refl
-none_mapped (Some r) = refl
+-- ---- what is owed for a prefix
 
-some_mapped : (o : Option Route) → is_some (option_map attributes_of o) ≡ is_some o
-some_mapped None = refl
-some_mapped (Some r) = refl
-
-pub offered_is_none : (net : Network) (a b : DeviceId) (p : Cidr) (c : Choice)
-    → is_none (offered_attributes net a b p (Some c)) ≡ not (is_some (offer net a b (route_of p c)))
-offered_is_none net a b p c =
-    ap is_none (offered_some net a b p c) ∙ none_mapped (offer net a b (route_of p c))
-
-pub offered_is_some : (net : Network) (a b : DeviceId) (p : Cidr) (c : Choice)
-    → is_some (offered_attributes net a b p (Some c)) ≡ is_some (offer net a b (route_of p c))
-offered_is_some net a b p c =
-    ap is_some (offered_some net a b p c) ∙ some_mapped (offer net a b (route_of p c))
-
--- ---- what is news
-
-news_of : (net : Network) (a b : DeviceId) (p : Cidr) (c : Choice) (g : Attributes) (r : Bool)
-    (o : Option Route)
-    → offer net a b (route_of p c) ≡ o → is_some o ≡ true → (IsTrue r ↔ (o ≡ Some (route_with p g)))
-    → not r ≡ is_news (Some g) (option_map attributes_of o)
-news_of net a b p c g r None e s t = absurd (true≢false (sym s))
-news_of net a b p c g true (Some x) e s t =
-    let same : x ≡ route_with p g = same_Some x (route_with p g) (t.0 refl) in
-    sym (ap not
-    (ap (λ (z : Route). same_attributes g (attributes_of z)) same ∙ attributes_themselves g))
-news_of net a b p c g false (Some x) e s t =
-    let prefix : x.prefix ≡ p = (offer-gives net a b (route_of p c) x e).prefix in
-    elim (same_attributes g (attributes_of x)) as
-    (λ u. same_attributes g (attributes_of x) ≡ u → true ≡ not u) [
-      | true ↦ λ u.
-          let same : g ≡ attributes_of x = same_attributes_are g (attributes_of x) u in
-          absurd (true≢false
-          (sym (t.1 (λ i. Some
-          (record { prefix = prefix i; path = (sym same i).path; origin = (sym same i).origin })))))
-      | false ↦ λ u. refl
-    ] refl
-
-pub news_some : (net : Network) (a b : DeviceId) (p : Cidr) (c : Choice) (g : Attributes) (r : Bool)
-    → is_some (offer net a b (route_of p c)) ≡ true
-    → (IsTrue r ↔ (offer net a b (route_of p c) ≡ Some (route_with p g)))
-    → not r ≡ is_news (Some g) (offered_attributes net a b p (Some c))
-news_some net a b p c g r s t =
-    news_of net a b p c g r (offer net a b (route_of p c)) refl s t
-    ∙ ap (is_news (Some g)) (sym (offered_some net a b p c))
-
-news_without : (o : Option Attributes) (f : Option Route) → is_some f ≡ false
-    → false ≡ is_news o (option_map attributes_of f)
-news_without o None s = refl
-news_without o (Some r) s = absurd (true≢false s)
-
-pub news_none : (net : Network) (a b : DeviceId) (p : Cidr) (c : Choice) (o : Option Attributes)
+-- nothing is offered of a choice that isn't offered
+pub offered_unless : (net : Network) (a b : DeviceId) (p : Cidr) (c : Choice)
     → is_some (offer net a b (route_of p c)) ≡ false
-    → false ≡ is_news o (offered_attributes net a b p (Some c))
-news_none net a b p c o s =
-    news_without o (offer net a b (route_of p c)) s
-    ∙ ap (is_news o) (sym (offered_some net a b p c))
+    → offered_attributes net a b p (Some c) ≡ None
+offered_unless net a b p c none =
+    offered_some net a b p c
+    ∙ ap (option_map attributes_of) (none_if (offer net a b (route_of p c)) none)
 
-unsent : (f : Option Route) → is_some f ≡ is_news None (option_map attributes_of f)
-unsent None = refl
-unsent (Some r) = refl
+unsent : (f : Option Route) → is_some f ≡ true
+    → Announcement ≡ due_of (unless_sent None (option_map attributes_of f))
+unsent None some = absurd (true≢false (sym some))
+unsent (Some r) some = refl
 
-pub news_unsent : (net : Network) (a b : DeviceId) (p : Cidr) (c : Choice)
-    → is_some (offer net a b (route_of p c)) ≡ is_news None (offered_attributes net a b p (Some c))
-news_unsent net a b p c =
-    unsent (offer net a b (route_of p c)) ∙ ap (is_news None) (sym (offered_some net a b p c))
+-- what is offered and wasn't sent is to be announced
+pub due-unsent : (net : Network) (a b : DeviceId) (p : Cidr) (c : Choice)
+    → is_some (offer net a b (route_of p c)) ≡ true
+    → Announcement ≡ due_of (unless_sent None (offered_attributes net a b p (Some c)))
+due-unsent net a b p c some =
+    unsent (offer net a b (route_of p c)) some
+    ∙ ap (λ o. due_of (unless_sent None o)) (sym (offered_some net a b p c))
+
+-- what was sent isn't owed
+pub due-same : (net : Network) (a b : DeviceId) (p : Cidr) (c : Choice) (g : Attributes)
+    → offer net a b (route_of p c) ≡ Some (route_with p g)
+    → Nothing ≡ due_of (unless_sent (Some g) (offered_attributes net a b p (Some c)))
+due-same net a b p c g is =
+    sym (ap due_of (unless_sent-same (Some g) (offered_attributes net a b p (Some c))
+    (sym (offered_some net a b p c ∙ ap (option_map attributes_of) is))))
+
+other : (net : Network) (a b : DeviceId) (p : Cidr) (c : Choice) (g : Attributes)
+    (f : Option Route)
+    → offer net a b (route_of p c) ≡ f → is_some f ≡ true
+    → (offer net a b (route_of p c) ≡ Some (route_with p g) → ⊥)
+    → Announcement ≡ due_of (unless_sent (Some g) (option_map attributes_of f))
+other net a b p c g None e some not = absurd (true≢false (sym some))
+other net a b p c g (Some x) e some not =
+    let prefix : x.prefix ≡ p = (offer-gives net a b (route_of p c) x e).prefix in
+    sym (ap due_of (unless_sent-other (Some g) (Some (attributes_of x)) (λ is.
+    let same : g ≡ attributes_of x = same_Some g (attributes_of x) is in
+    not (e ∙ (λ i. Some
+    (record { prefix = prefix i; path = (sym same i).path; origin = (sym same i).origin }))))))
+
+-- what is offered and isn't what was sent is to be announced
+pub due-other : (net : Network) (a b : DeviceId) (p : Cidr) (c : Choice) (g : Attributes)
+    → is_some (offer net a b (route_of p c)) ≡ true
+    → (offer net a b (route_of p c) ≡ Some (route_with p g) → ⊥)
+    → Announcement ≡ due_of (unless_sent (Some g) (offered_attributes net a b p (Some c)))
+due-other net a b p c g some not =
+    other net a b p c g (offer net a b (route_of p c)) refl some not
+    ∙ ap (λ o. due_of (unless_sent (Some g) o)) (sym (offered_some net a b p c))

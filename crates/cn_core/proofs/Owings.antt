@@ -1,19 +1,18 @@
 -- What is remembered of which sessions owe a message.
 use Rattle.std.proofs.Common.{◌≡◌, ◌≢◌, ℕ, zero, suc, ◌+◌, ◌<◌, ◌≤◌, Bool, true, false, cond, List, [], ◌∷◌, length, get_or, set, Option, Some, None, refl, sym, ap, Less, ◌∙◌, subst, inl, inr, arith, true≢false}
-use Rattle.std.specs.Prelude.{◌&&◌, ◌⊎◌, IsTrue, is_some}
+use Rattle.std.specs.Prelude.{◌&&◌, ◌⊎◌, IsTrue, is_some, nat_lt}
 use Rattle.std.specs.List.{find}
 use Rattle.std.proofs.lemmas.Bool.{cases_lt}
 use Rattle.std.proofs.lemmas.List.{get_or-set_other, get_or-set_same, get_or_default, length-set}
-use Rattle.std.specs.FinMap.{FinMap}
 use Rattle.std.specs.FinMap as fin
-use Rattle.cn_base.specs.Cidr.{Cidr, same_prefix}
-use Rattle.cn_base.specs.Table.{prefix_cmp}
+use Rattle.cn_base.specs.Cidr.{Cidr}
 use Rattle.cn_base.specs.declared.route.Choice.{Choice}
-use Rattle.cn_base.specs.declared.route.Attributes.{Attributes}
-use Rattle.cn_rib.proofs.Keyed.{inserted_elsewhere, removed_elsewhere}
+use Rattle.cn_rib.specs.PrefixMaps.{put_at}
+use Rattle.cn_rib.proofs.Keyed.{get_empty, held_has_len, same_rows}
+use Rattle.cn_rib.proofs.PrefixMaps.{get-put_at-elsewhere}
 use Rattle.cn_rib.proofs.Prefixes.{same_tells}
 use Rattle.cn_net.proofs.Keys.{same_device-Decides}
-use Rattle.cn_core.proofs.Owing.{news_differs, not_news, owed_exactly, owes_nothing}
+use Rattle.cn_core.proofs.Owes.{decided_owed_holds, owes-empty, owes-none}
 use Rattle.cn_base.specs.declared.ids.DeviceId.{DeviceId}
 use Rattle.cn_net.specs.Network.{same_device}
 use Rattle.cn_core.specs.declared.event.Event.{Event}
@@ -21,23 +20,23 @@ use Rattle.cn_core.specs.declared.event.Event.TheVariants.{Receive, Decide, Send
 use Rattle.cn_core.specs.declared.message.Message.{Message}
 use Rattle.cn_core.specs.declared.session.Rib.{Rib}
 use Rattle.cn_core.specs.declared.session.Session.{Session}
-use Rattle.cn_core.specs.Machine.{after_event, at_first, can, decided, put_choice, put_out, receive, send, with_dirty, taken_in, with_rib, with_session}
+use Rattle.cn_core.specs.Machine.{after_event, at_first, can, decided, put_out, receive, send, with_dirty, taken_in, with_rib, with_session}
 use Rattle.cn_core.specs.Order.{owes_from}
-use Rattle.cn_core.specs.Owing.{ArePlacesOf, IsOwing, IsOwingAfter, IsOwingBut, IsOwingButFor, IsOwingDecided, IsOwingElsewhere, OwesNothingElse, differs, owes_for}
-use Rattle.cn_core.specs.State.{CoreState, is_session, offered_attributes, owed, owed_by, prefix_of, rib, session, wanted}
+use Rattle.cn_core.specs.Owing.{ArePlacesOf, IsOwing, IsOwingAfter, IsOwingBut, IsOwingButFor, IsOwingDecided, IsOwingElsewhere, OwesNothingElse, owes_for}
+use Rattle.cn_core.specs.State.{CoreState, is_session, prefix_of, rib, session}
+use Rattle.cn_core.specs.Owed.{next_message, offered_attributes, owed, owed_by, owes, unless_sent}
 use Rattle.cn_core.specs.Whole.{IsNowhere, IsPlaceOf, IsWhole, by_ends}
 use Rattle.std.proofs.lemmas.Bool.Decides.{nat_tests}
-use Rattle.cn_core.proofs.Access.{itself, rib_other, rib_past, rib_same}
+use Rattle.cn_core.proofs.Access.{itself, none_if, rib_other, rib_past, rib_same}
 use Rattle.cn_core.proofs.Kept.{device_tells, dirty_in_range}
 use Rattle.cn_core.proofs.Places.{find_nowhere, find_there}
 
 -- ---- what is owed goes by the network, the ends, what was sent and what the sender holds
 
 same_owed : (s t : CoreState) (x y : Session) → t.net ≡ s.net → y.from ≡ x.from → y.to ≡ x.to
-    → y.sent ≡ x.sent → (rib t y.from).best ≡ (rib s x.from).best
-    → is_some (owed_by t y) ≡ is_some (owed_by s x)
+    → y.sent ≡ x.sent → (rib t y.from).best ≡ (rib s x.from).best → owes t y ≡ owes s x
 same_owed s t x y net from to sent best =
-    λ i. is_some (owed (net i) (from i) (to i) (sent i) (best i))
+    λ i. nat_lt 0 (fin.len (owed (net i) (from i) (to i) (sent i) (best i)))
 
 -- ---- a change in one place
 
@@ -134,15 +133,6 @@ received_owes s owing is a b (m ∷ rest) = receive_owes s owing is a b m rest
 other_device : (x d : DeviceId) → same_device x d ≡ false → x ≢ d
 other_device x d e h = true≢false (sym (ap (λ i. same_device i d) h ∙ itself d) ∙ e)
 
-put_elsewhere : (best : FinMap prefix_cmp Choice) (p : Cidr) (o : Option Choice) (q : Cidr)
-    → same_prefix q p ≡ false → fin.get (put_choice best p o) q ≡ fin.get best q
-put_elsewhere best p None q e = removed_elsewhere best p q e
-put_elsewhere best p (Some c) q e = inserted_elsewhere best p c q e
-
-nothing_owed : (o : Option Message) → is_some o ≡ false → o ≡ None
-nothing_owed None e = refl
-nothing_owed (Some m) e = absurd (true≢false e)
-
 decided_owes : (s : CoreState) (owing : List Bool) → IsOwing s owing
     → (d : DeviceId) (p : Cidr) (o : Option Choice) → d.0 < length s.ribs
     → IsOwingDecided (with_rib s d (decided (rib s d) p o)) d p owing
@@ -156,18 +146,21 @@ decided_owes s owing is d p o inside =
           is.right k y lt
           ∙ sym (same_owed s (with_rib s d x) u u refl refl refl refl
           (ap (λ (z : Rib). z.best) (rib_other s d u.from x (other_device u.from d other))));
-      nothing_else = λ k y lt from owes q other.
+      nothing_else = λ k y lt from due q other.
           let u : Session = get_or s.sessions k y in
-          let none : owed_by s u ≡ None =
-          nothing_owed (owed_by s u) (sym (is.right k y lt) ∙ owes) in
-          let was = owes_nothing s.net u.from u.to u.sent (rib s u.from).best none q in
+          let none : owed_by s u ≡ fin.empty =
+          owes-none s u (sym (is.right k y lt) ∙ due) in
           let at : u.from ≡ d = (same_device-Decides u.from d).0 from in
           let mine : rib (with_rib s d x) u.from ≡ x =
           ap (rib (with_rib s d x)) at ∙ rib_same s d x inside in
-          was
-          ∙ ap (offered_attributes s.net u.from u.to q)
-          (ap (λ i. fin.get (rib s i).best q) at ∙ sym (put_elsewhere (rib s d).best p o q other)
-          ∙ sym (ap (λ (z : Rib). fin.get z.best q) mine));
+          let best : (rib (with_rib s d x) u.from).best ≡ put_at (rib s u.from).best p o =
+          ap (λ (z : Rib). z.best) mine ∙ ap (λ i. put_at (rib s i).best p o) (sym at) in
+          ap is_some (ap (λ z. fin.get (owed s.net u.from u.to u.sent z) q) best
+          ∙ ap (λ m. fin.get m q)
+          (decided_owed_holds s.net u.from u.to u.sent (rib s u.from).best p o)
+          ∙ get-put_at-elsewhere (owed_by s u) p
+          (unless_sent (fin.get u.sent p) (offered_attributes s.net u.from u.to p o)) q other
+          ∙ ap (λ m. fin.get m q) none ∙ get_empty q);
     }
 
 -- ---- after a send
@@ -184,7 +177,7 @@ put_owes s owing is a b m = record {
       omega (arith, lt, count_first (is_session a b) f s.sessions) in
       let u : Session = get_or s.sessions k x in
       elim (one_changed (is_session a b) f s.sessions k x lt') [
-        | inl e ↦ is.right k x lt' ∙ ap (λ (y : Session). is_some (owed_by s y)) (sym e)
+        | inl e ↦ is.right k x lt' ∙ ap (λ (y : Session). owes s y) (sym e)
         | inr e ↦ absurd (true≢false (sym e.0 ∙ sym (ap (is_session a b) e.1) ∙ other))
       ];
 }
@@ -205,7 +198,8 @@ pub still_right : (s : CoreState) (owing : List Bool) → IsOwing s owing → (e
 still_right s owing is (Receive a b) enabled = received_owes s owing is a b (session s a b).mail
 still_right s owing is (Decide d p) enabled =
     decided_owes s owing is d p _ (dirty_in_range s d p enabled)
-still_right s owing is (Send a b) enabled = sent_owes s owing is a b (owed_by s (session s a b))
+still_right s owing is (Send a b) enabled =
+    sent_owes s owing is a b (next_message (owed_by s (session s a b)))
 
 -- ---- looking again
 
@@ -243,7 +237,7 @@ without_it s a b owing none is =
 
 -- one more place is right
 pub one_more : (s : CoreState) (owing new : List Bool) (at end : ℕ) (b : Bool) (x : Session)
-    → at < length s.sessions → x ≡ get_or s.sessions at x → b ≡ is_some (owed_by s x)
+    → at < length s.sessions → x ≡ get_or s.sessions at x → b ≡ owes s x
     → new ≡ set owing at b → IsOwingBut s at end owing → IsOwingBut s (at + 1) end new
 one_more s owing new at end b x inside read looked is_new is =
     subst (IsOwingBut s (at + 1) end) (sym is_new) (record {
@@ -264,7 +258,7 @@ one_more s owing new at end b x inside read looked is_new is =
               ap (λ i. get_or (set owing at b) i false) same
               ∙ get_or-set_same owing at b false within
               ∙ looked
-              ∙ ap (λ z. is_some (owed_by s z))
+              ∙ ap (λ z. owes s z)
               (read ∙ get_or_default s.sessions at x y inside
               ∙ ap (λ i. get_or s.sessions i y) (sym same))
         ]
@@ -284,42 +278,27 @@ all_right s owing at end past is = record {
 
 -- ---- after a decision for one prefix
 
-differs_is : (o f : Option Attributes) → differs o f ≡ true → o ≢ f
-differs_is None None e is = absurd (true≢false (sym e))
-differs_is (Some h) None e is = cc
-differs_is o (Some f) e is = news_differs o (Some f) e is
-
-alike_is : (o f : Option Attributes) → differs o f ≡ false → o ≡ f
-alike_is None None e = refl
-alike_is (Some h) None e = absurd (true≢false e)
-alike_is o (Some f) e = not_news o f e
-
 pub owes_it : (s : CoreState) (x : Session) (p : Cidr) → owes_for s x p ≡ true
-    → is_some (owed_by s x) ≡ true
-owes_it s x p e = (owed_exactly s.net x.from x.to x.sent (rib s x.from).best).1
-    (p, differs_is (fin.get x.sent p) (wanted s.net x.from x.to (rib s x.from).best p) e)
+    → owes s x ≡ true
+owes_it s x p e = some_there (fin.len (owed_by s x)) (held_has_len (owed_by s x) p e)
+  where
+    some_there : (n : ℕ) → 0 < n → nat_lt 0 n ≡ true
+    some_there n h = grind (arith, nat_tests)
 
 pub owes_none : (s : CoreState) (x : Session) (p : Cidr) → owes_for s x p ≡ false
-    → OwesNothingElse s x p → is_some (owed_by s x) ≡ false
+    → OwesNothingElse s x p → owes s x ≡ false
 owes_none s x p e others =
-    elim (is_some (owed_by s x)) as (λ b. is_some (owed_by s x) ≡ b → b ≡ false) [
-      | false ↦ λ b. refl
-      | true ↦ λ b.
-          let some = (owed_exactly s.net x.from x.to x.sent (rib s x.from).best).0 b in
-          elim (same_tells some.0 p) [
-            | inl hit ↦
-                absurd (some.1
-                (subst (λ q. fin.get x.sent q ≡ wanted s.net x.from x.to (rib s x.from).best q)
-                (sym hit.1)
-                (alike_is (fin.get x.sent p) (wanted s.net x.from x.to (rib s x.from).best p) e)))
-            | inr miss ↦ absurd (some.1 (others some.0 miss.0))
-          ]
-    ] refl
+    owes-empty s x (same_rows (owed_by s x) fin.empty (λ q. none_if (fin.get (owed_by s x) q)
+    (elim (same_tells q p) [
+      | inl hit ↦ ap (λ z. is_some (fin.get (owed_by s x) z)) hit.1 ∙ e
+      | inr miss ↦ others q miss.0
+    ])
+    ∙ sym (get_empty q)))
 
 -- one more place is right, and the others are as they were
 pub one_more_for : (s : CoreState) (p : Cidr) (owing new : List Bool) (at end : ℕ) (b : Bool)
     (x : Session)
-    → at < length s.sessions → at < end → x ≡ get_or s.sessions at x → b ≡ is_some (owed_by s x)
+    → at < length s.sessions → at < end → x ≡ get_or s.sessions at x → b ≡ owes s x
     → new ≡ set owing at b → IsOwingButFor s p at end owing → IsOwingButFor s p (at + 1) end new
 one_more_for s p owing new at end b x inside below read looked is_new is =
     let but : IsOwingBut s at end owing = record { many = is.many; right = is.right } in
@@ -364,18 +343,18 @@ module _ (s : CoreState) (d : DeviceId) (owing : List Bool) (start end : ℕ)
       → (k < start) ⊎ ((start ≤ k → k < end → get_or owing k false ≡ false))
       → owes_from s d (get_or s.sessions k x) ≡ false
   not_it k x lt (inl before) =
-      ap (λ b. b && is_some (owed_by s (get_or s.sessions k x))) (places.others k x lt (inl before))
-  not_it k x lt (inr owes) =
+      ap (λ b. b && owes s (get_or s.sessions k x)) (places.others k x lt (inl before))
+  not_it k x lt (inr due) =
       elim (cases_lt k start) [
         | inl before ↦
-            ap (λ b. b && is_some (owed_by s (get_or s.sessions k x)))
+            ap (λ b. b && owes s (get_or s.sessions k x))
             (places.others k x lt (inl before))
         | inr from ↦ elim (cases_lt k end) [
           | inr past ↦
-              ap (λ b. b && is_some (owed_by s (get_or s.sessions k x)))
+              ap (λ b. b && owes s (get_or s.sessions k x))
               (places.others k x lt (inr past))
           | inl in' ↦
-              (λ i. places.these k x from in' i && (sym (is.right k x lt) ∙ owes from in') i)
+              (λ i. places.these k x from in' i && (sym (is.right k x lt) ∙ due from in') i)
         ]
       ]
 
@@ -383,12 +362,12 @@ module _ (s : CoreState) (d : DeviceId) (owing : List Bool) (start end : ℕ)
       → get_or owing at false ≡ true → x ≡ get_or s.sessions at x
       → Some x ≡ find (owes_from s d) s.sessions
   unfolding IsNoneBefore
-  owing_found at x from in' none owes read =
+  owing_found at x from in' none due read =
       let inside : at < length s.sessions = omega (arith, in', places.inside) in
       ap Some read
       ∙ sym (find_there (owes_from s d) s.sessions at x inside
       (λ k lt. not_it k x (omega (arith, lt, inside)) (inr (λ ge below. none k ge lt)))
-      (λ i. places.these at x from in' i && (sym (is.right at x inside) ∙ owes) i))
+      (λ i. places.these at x from in' i && (sym (is.right at x inside) ∙ due) i))
 
   pub owing_missed : (at : ℕ) → end ≤ at → IsNoneBefore s owing start at
       → None ≡ find (owes_from s d) s.sessions

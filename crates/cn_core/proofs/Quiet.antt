@@ -31,11 +31,12 @@ use Rattle.cn_core.specs.declared.session.Session.{Session}
 use Rattle.cn_core.specs.Laws.{IsKept, QuietLaw, held_in}
 use Rattle.cn_core.specs.Machine.{came_at, route_with, state}
 use Rattle.cn_core.specs.Order.{IsQuiet}
-use Rattle.cn_core.specs.State.{CoreState, apply_all, attributes_of, empty_session, is_session, offered_attributes, owed_by, rib, session, wanted}
+use Rattle.cn_core.specs.Owed.{advertised, attributes_of, offered_attributes, owed_by}
+use Rattle.cn_core.specs.State.{CoreState, apply_all, empty_session, is_session, rib, session}
 use Rattle.cn_core.proofs.Access.{ends_are, found_has}
 use Rattle.cn_core.proofs.Ends.{found_by_ends, joins_ends, linked_stands}
 use Rattle.cn_core.proofs.Kept.{run_holds}
-use Rattle.cn_core.proofs.Owing.{owes_nothing}
+use Rattle.cn_core.proofs.Owes.{owed_empty}
 
 -- ---- what is offered keeps its prefix
 
@@ -89,7 +90,7 @@ no_session_no_offer r s k valid a d p held m none =
 
 -- where nothing is under way and nothing is owed, what came in is what is offered
 came_is_offered : (r : RecordedOpening) (s : CoreState) → IsKept r s → IsValid r.opening.net
-    → All (λ x. x.mail ≡ []) s.sessions → All (λ x. owed_by s x ≡ None) s.sessions
+    → All (λ x. x.mail ≡ []) s.sessions → All (λ x. owed_by s x ≡ fin.empty) s.sessions
     → (a d : DeviceId) (p : Cidr) → holds_device r.opening.emulated d ≡ true
     → came_at s d p a ≡ offers_to r.opening.net (held_in s) d p a
 unfolding came_at session
@@ -108,13 +109,13 @@ came_is_offered r s k valid no_mail none_owed a d p m =
           let empty =
           found_has (λ (y : Session). y.mail ≡ []) (is_session a d) s.sessions x no_mail e in
           let nothing =
-          found_has (λ (y : Session). owed_by s y ≡ None) (is_session a d) s.sessions x none_owed
+          found_has (λ (y : Session). owed_by s y ≡ fin.empty) (is_session a d) s.sessions x none_owed
           e in
           let ends = ends_are a d x transit.1 in
           let arrived : x.came ≡ x.sent = ap (apply_all x.came) (sym empty.0) ∙ transit.0 in
           let sent : fin.get x.sent p ≡ offered_attributes o.net a d p (held_in s a p) =
-          owes_nothing s.net x.from x.to x.sent (rib s x.from).best nothing.0 p
-          ∙ (λ i. wanted (k.net i) (ends.0 i) (ends.1 i) (rib s (ends.0 i)).best p) in
+          (owed_empty s.net x.from x.to x.sent (rib s x.from).best).0 nothing.0 p
+          ∙ (λ i. advertised (k.net i) (ends.0 i) (ends.1 i) (rib s (ends.0 i)).best p) in
           ap (λ n. option_map (route_with p) (fin.get n p)) arrived
           ∙ ap (option_map (route_with p)) sent ∙ offered_back o.net a d p (held_in s a p)
     ] refl

@@ -2,6 +2,7 @@
 use Rattle.std.proofs.Common.{◌≡◌, suc, ◌<◌, Bool, true, false, List, [], ◌∷◌, length, Option, Some, None, refl, sym, ap, ◌∙◌, subst, inl, inr, arith, true≢false}
 use Rattle.std.specs.Prelude.{◌↔◌, ◌&&◌, ◌||◌, is_some, nat_lt, slice_index_or}
 use Rattle.std.specs.List.{find}
+use Rattle.std.specs.FinMap as fin
 use Rattle.std.proofs.lemmas.Bool.{cases_lt}
 use Rattle.std.proofs.lemmas.Bool.Decides.{nat_tests}
 use Rattle.cn_base.specs.declared.ids.DeviceId.{DeviceId}
@@ -17,9 +18,11 @@ use Rattle.cn_core.specs.declared.session.Session.{Session}
 use Rattle.cn_core.specs.Laws.{IsKept, StandingLaw}
 use Rattle.cn_core.specs.Machine.{state}
 use Rattle.cn_core.specs.Order.{IsQuiet, first_pending, has_mail, is_pending, owes_from, standing, standing_of}
-use Rattle.cn_core.specs.State.{CoreState, owed_by, rib}
+use Rattle.cn_core.specs.Owed.{owed_by, owes}
+use Rattle.cn_core.specs.State.{CoreState, rib}
 use Rattle.cn_core.proofs.Access.{itself, none_if, rib_past}
 use Rattle.cn_core.proofs.Kept.{run_holds, within}
+use Rattle.cn_core.proofs.Owes.{owes-empty, owes-none}
 use Rattle.cn_core.proofs.Searches.{at_member, none_passes, nothing_found}
 
 or_parts : (a b : Bool) → (a || b) ≡ false → (a ≡ false) × (b ≡ false)
@@ -40,9 +43,9 @@ no_messages (m ∷ ms) e = absurd (true≢false (sym some_there ∙ e))
     some_there = grind (arith, nat_tests)
 
 -- what `owes_from` says at a session of its own device
-owed_none : (s : CoreState) (x : Session) → owes_from s x.from x ≡ false → owed_by s x ≡ None
-owed_none s x e =
-    none_if (owed_by s x) (sym (ap (λ b. b && is_some (owed_by s x)) (itself x.from)) ∙ e)
+owed_none : (s : CoreState) (x : Session) → owes_from s x.from x ≡ false
+    → owed_by s x ≡ fin.empty
+owed_none s x e = owes-none s x (sym (ap (λ b. b && owes s x) (itself x.from)) ∙ e)
 
 idle_at : (s : CoreState) (d : DeviceId) → first_pending s ≡ None → IsDevice s.net d
     → is_pending s d ≡ false
@@ -77,7 +80,8 @@ stands_quiet r s k m e = record {
 not_owing : (s : CoreState) → IsQuiet s → (d : DeviceId) → find (owes_from s d) s.sessions ≡ None
 not_owing s q d =
     nothing_found (owes_from s d) s.sessions (λ i x lt. ap
-    (λ o. same_device (slice_index_or s.sessions i x).from d && is_some o) (q.owed i x lt)
+    (λ o. same_device (slice_index_or s.sessions i x).from d && o)
+    (owes-empty s (slice_index_or s.sessions i x) (q.owed i x lt))
     ∙ and_false (same_device (slice_index_or s.sessions i x).from d))
   where
     and_false : (b : Bool) → (b && false) ≡ false

@@ -1,19 +1,15 @@
 -- What holds of the state after every run.
-use Rattle.std.specs.Prelude.{◌≡◌, ◌≢◌, ◌≤◌, ◌↔◌, true, false, List, length, map, Some, None, is_some, All, IsTrue}
+use Rattle.std.specs.Prelude.{◌≡◌, ◌≤◌, ◌↔◌, true, false, List, length, map, Some, None, All, IsTrue}
 use Rattle.std.specs.List.{flat_map}
-use Rattle.std.specs.FinMap.{FinMap}
 use Rattle.std.specs.FinMap as fin
 use Rattle.cn_base.specs.Cidr.{Cidr}
-use Rattle.cn_base.specs.Table.{prefix_cmp}
 use Rattle.cn_base.specs.declared.ids.DeviceId.{DeviceId}
-use Rattle.cn_base.specs.declared.route.Choice.{Choice}
 use Rattle.cn_base.specs.declared.standing.Standing.TheVariants as stands
 use Rattle.cn_rib.specs.PrefixSet as set
-use Rattle.cn_base.specs.declared.route.Attributes.{Attributes}
 use Rattle.cn_net.specs.Candidates.{best_of}
 use Rattle.cn_net.specs.Boundary.{AgreeInside}
 use Rattle.cn_net.specs.Islands.{holds_device, outside_of}
-use Rattle.cn_net.specs.Network.{Network, device_ids}
+use Rattle.cn_net.specs.Network.{device_ids}
 use Rattle.cn_net.specs.Opening.{Opening}
 use Rattle.cn_net.specs.Stable.{Assignment, IsStable}
 use Rattle.cn_record.specs.Recorded.{IsRecorded, RecordedOpening}
@@ -25,7 +21,7 @@ use Rattle.cn_core.specs.declared.session.Session.{Session}
 use Rattle.cn_core.specs.Machine.{came_at, can, IsRun, state}
 use Rattle.cn_core.specs.Start.{receivers}
 use Rattle.cn_core.specs.Order.{IsQuiet, first_event, standing}
-use Rattle.cn_core.specs.State.{CoreState, apply_all, owed, rib, wanted}
+use Rattle.cn_core.specs.State.{CoreState, apply_all, rib}
 
 -- what each device holds for each prefix
 abbrev pub held_in : CoreState → Assignment
@@ -97,11 +93,3 @@ pub record FirstLaw : Type 0 where
       → first_event (state r h) ≡ Some e → IsTrue (can (state r h) e)
   pub none : (r : RecordedOpening) (h : List Step) → IsRun r h
       → (first_event (state r h) ≡ None) ↔ IsQuiet (state r h)
-
--- a message is owed exactly where, for some prefix, what was sent isn't what is offered
-abbrev pub OwedLaw : Type 0
-OwedLaw =
-    (net : Network) (a b : DeviceId) (sent : FinMap prefix_cmp Attributes)
-    (best : FinMap prefix_cmp Choice)
-    → (is_some (owed net a b sent best) ≡ true) ↔
-    ((p : Cidr) × (fin.get sent p ≢ wanted net a b best p))

@@ -1,4 +1,5 @@
 pub mod State
+pub mod Owed
 pub mod Start
 pub mod Machine
 pub mod Parts
@@ -13,3 +14,4 @@ pub mod Learnt
 pub mod Rows
 pub mod Codes
 pub mod Owing
+pub mod OwedLists

@@ -1,13 +1,12 @@
 -- The events of the core, each with the condition under which it is enabled and its one result.
 use Rattle.std.specs.Prelude.{Bool, ◌&&◌, List, [], ◌∷◌, ◌++◌, length, Option, Some, None, is_some, option_map, slice_set, if◌then◌else◌, nat_lt, IsTrue}
 use Rattle.std.specs.List.{find, fold}
-use Rattle.std.specs.FinMap.{FinMap}
 use Rattle.std.specs.FinMap as fin
 use Rattle.cn_base.specs.Cidr.{Cidr}
-use Rattle.cn_base.specs.Table.{prefix_cmp}
 use Rattle.cn_base.specs.declared.ids.DeviceId.{DeviceId}
 use Rattle.cn_base.specs.declared.route.Choice.{Choice}
 use Rattle.cn_base.specs.declared.route.Route.{Route}
+use Rattle.cn_rib.specs.PrefixMaps.{put_at}
 use Rattle.cn_rib.specs.PrefixSet as set
 use Rattle.cn_base.specs.declared.route.Attributes.{Attributes}
 use Rattle.cn_net.specs.Candidates.{best_of}
@@ -20,7 +19,8 @@ use Rattle.cn_core.specs.declared.message.Message.{Message}
 use Rattle.cn_core.specs.declared.session.Rib.{Rib}
 use Rattle.cn_core.specs.declared.session.Session.{Session}
 use Rattle.cn_core.specs.Start.{start}
-use Rattle.cn_core.specs.State.{CoreState, is_session, session, rib, prefix_of, apply, owed_by}
+use Rattle.cn_core.specs.Owed.{next_message, owed_by, owes}
+use Rattle.cn_core.specs.State.{CoreState, is_session, session, rib, prefix_of, apply}
 
 -- ---- a change in one place, all else as it is
 
@@ -61,18 +61,14 @@ route_with p x = record { prefix = p; path = x.path; origin = x.origin }
 unfoldable pub came_at : CoreState → DeviceId → Cidr → DeviceId → Option Route
 came_at s d p a = option_map (route_with p) (fin.get (session s a d).came p)
 
-abbrev pub put_choice : FinMap prefix_cmp Choice → Cidr → Option Choice → FinMap prefix_cmp Choice
-put_choice best p None = fin.remove best p
-put_choice best p (Some c) = fin.insert best p c
-
 abbrev pub decided : Rib → Cidr → Option Choice → Rib
-decided x p o = record { best = put_choice x.best p o; dirty = set.remove x.dirty p }
+decided x p o = record { best = put_at x.best p o; dirty = set.remove x.dirty p }
 
 abbrev pub decide : CoreState → DeviceId → Cidr → CoreState
 decide s d p = with_rib s d (decided (rib s d) p (best_of s.net (came_at s d p) d p))
 
--- ---- send: the message that is owed stands last in the mailbox, and counts as sent (RFC 4271,
--- 9.2)
+-- ---- send: the first message of what is owed stands last in the mailbox, and counts as sent (RFC
+-- 4271, 9.2)
 
 abbrev pub put_out : Message → Session → Session
 put_out m x = record {
@@ -95,12 +91,12 @@ can s (Receive a b) = nat_lt 0 (length (session s a b).mail)
 can s (Decide d p) = set.contains (rib s d).dirty p
 can s (Send a b) =
     is_some (find (is_session a b) s.sessions) &&
-    (is_some (owed_by s (session s a b)) && nat_lt (length (session s a b).mail) 64)
+    (owes s (session s a b) && nat_lt (length (session s a b).mail) 64)
 
 abbrev pub after_event : CoreState → Event → CoreState
 after_event s (Receive a b) = receive s a b (session s a b).mail
 after_event s (Decide d p) = decide s d p
-after_event s (Send a b) = send s a b (owed_by s (session s a b))
+after_event s (Send a b) = send s a b (next_message (owed_by s (session s a b)))
 
 -- a mark may always be made, and changes nothing but the history
 abbrev pub IsEnabled : CoreState → Step → Type 0

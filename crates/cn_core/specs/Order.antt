@@ -1,6 +1,7 @@
 -- What is pending, and which event comes first in the serial order.
 use Rattle.std.specs.Prelude.{◌≡◌, Bool, ◌&&◌, ◌||◌, [], length, Option, Some, None, is_some, option_map, nat_lt, All}
 use Rattle.std.specs.List.{find}
+use Rattle.std.specs.FinMap as fin
 use Rattle.cn_base.specs.Cidr.{Cidr}
 use Rattle.cn_base.specs.declared.ids.DeviceId.{DeviceId}
 use Rattle.cn_base.specs.declared.standing.Standing.{Standing}
@@ -10,20 +11,21 @@ use Rattle.cn_net.specs.Network.{device_ids, same_device}
 use Rattle.cn_core.specs.declared.event.Event.{Event}
 use Rattle.cn_core.specs.declared.event.Event.TheVariants.{Receive, Decide, Send}
 use Rattle.cn_core.specs.declared.session.Session.{Session}
-use Rattle.cn_core.specs.State.{CoreState, rib, owed_by}
+use Rattle.cn_core.specs.Owed.{owed_by, owes}
+use Rattle.cn_core.specs.State.{CoreState, rib}
 
 -- no mailbox holds a message, nothing is dirty, and nothing is owed
 pub record IsQuiet (s : CoreState) : Type 0 where
   pub mail : All (λ x. x.mail ≡ []) s.sessions
   pub clean : (d : DeviceId) → (rib s d).dirty ≡ set.empty
-  pub owed : All (λ x. owed_by s x ≡ None) s.sessions
+  pub owed : All (λ x. owed_by s x ≡ fin.empty) s.sessions
 
 abbrev pub has_mail : Session → Bool
 has_mail x = nat_lt 0 (length x.mail)
 
--- x is a session from d that owes a message
+-- x is a session from d that owes something
 abbrev pub owes_from : CoreState → DeviceId → Session → Bool
-owes_from s d x = same_device x.from d && is_some (owed_by s x)
+owes_from s d x = same_device x.from d && owes s x
 
 -- d has a dirty prefix or owes one
 abbrev pub is_pending : CoreState → DeviceId → Bool

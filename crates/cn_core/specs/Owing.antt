@@ -1,20 +1,20 @@
 -- What is remembered of which sessions owe a message, by the places of the sessions. No public
 -- contract speaks of it.
-use Rattle.std.specs.Prelude.{◌≡◌, ◌⊎◌, ℕ, ◌<◌, ◌≤◌, Bool, true, false, List, length, Option, Some, None, is_some, slice_index_or}
+use Rattle.std.specs.Prelude.{◌≡◌, ◌⊎◌, ℕ, ◌<◌, ◌≤◌, Bool, true, false, List, length, slice_index_or}
 use Rattle.std.specs.FinMap as fin
 use Rattle.cn_base.specs.Cidr.{Cidr, same_prefix}
-use Rattle.cn_base.specs.declared.route.Attributes.{Attributes}
 use Rattle.cn_base.specs.declared.ids.DeviceId.{DeviceId}
 use Rattle.cn_net.specs.Network.{same_device}
 use Rattle.cn_core.specs.declared.event.Event.{Event}
 use Rattle.cn_core.specs.declared.event.Event.TheVariants.{Receive, Decide, Send}
 use Rattle.cn_core.specs.declared.session.Session.{Session}
-use Rattle.cn_core.specs.State.{CoreState, is_news, is_session, owed_by, rib, wanted}
+use Rattle.cn_core.specs.Owed.{owed_by, owes}
+use Rattle.cn_core.specs.State.{CoreState, is_session}
 
 -- what is remembered of the session at place k is right
 abbrev pub IsRightAt : CoreState → List Bool → ℕ → Session → Type 0
 IsRightAt s owing k x =
-    slice_index_or owing k false ≡ is_some (owed_by s (slice_index_or s.sessions k x))
+    slice_index_or owing k false ≡ owes s (slice_index_or s.sessions k x)
 
 -- it is right at each place
 pub record IsOwing (s : CoreState) (owing : List Bool) : Type 0 where
@@ -38,20 +38,14 @@ pub record IsOwingElsewhere (s : CoreState) (test : Session → Bool)
 abbrev pub is_from : DeviceId → Session → Bool
 is_from d x = same_device x.from d
 
--- what was sent isn't what is offered
-abbrev pub differs : Option Attributes → Option Attributes → Bool
-differs sent None = is_some sent
-differs sent (Some want) = is_news sent (Some want)
-
--- x owes a message for p
+-- x owes p
 abbrev pub owes_for : CoreState → Session → Cidr → Bool
-owes_for s x p = differs (fin.get x.sent p) (wanted s.net x.from x.to (rib s x.from).best p)
+owes_for s x p = fin.contains_key (owed_by s x) p
 
 -- x owes nothing but, perhaps, for p
 abbrev pub OwesNothingElse : CoreState → Session → Cidr → Type 0
 OwesNothingElse s x p =
-    (q : Cidr) → same_prefix q p ≡ false
-    → fin.get x.sent q ≡ wanted s.net x.from x.to (rib s x.from).best q
+    (q : Cidr) → same_prefix q p ≡ false → owes_for s x q ≡ false
 
 -- it is right before `start` and from `end` on, and where it says between them that nothing is
 -- owed, nothing is but for p

@@ -7,11 +7,12 @@ ghost use Rattle.cn_net.specs.Network.{IsDevice};
 ghost use Rattle.cn_rib.specs.PrefixSet as set;
 ghost use Rattle.cn_core.specs.Machine.{after_event, can, decide, receive, send};
 ghost use Rattle.cn_core.specs.Owing.{owes_for};
-ghost use Rattle.cn_core.specs.State.{is_session, owed_by, rib, session};
+ghost use Rattle.cn_core.specs.Owed.{next_message, owed_by, owes};
+ghost use Rattle.cn_core.specs.State.{is_session, rib, session};
 ghost use Rattle.cn_core.specs.Whole.{IsNowhere, IsPlaceOf, IsWhole};
 
 use crate::event::Event;
-use crate::owed::{message, owes, owes_for};
+use crate::owed::{listed, message, owes, owes_for};
 use crate::session::{Rib, Session, receive};
 use cn_base::{Attributes, Choice, DeviceId, Prefix};
 use cn_net::Net;
@@ -94,21 +95,19 @@ impl Engine {
         &self.ribs[device.0 as usize].best
     }
 
-    /// Whether a session owes a message.
+    /// Whether a session owes something.
     pub fn owes(&self, session: &Session) -> bool
         requires whole { IsWhole self.now }
         requires from { IsDevice self.now.net session.now.from }
-        requires to { IsDevice self.now.net session.now.to }
-        ensures { result ≡ is_some (owed_by self.now session.now) }
+        ensures { result ≡ owes self.now session.now }
     {
         owes(&self.net, session, self.best(session.from))
     }
 
-    /// Whether a session owes a message for a prefix.
+    /// Whether a session owes a prefix.
     pub fn owes_for(&self, session: &Session, prefix: &Prefix) -> bool
         requires whole { IsWhole self.now }
         requires from { IsDevice self.now.net session.now.from }
-        requires to { IsDevice self.now.net session.now.to }
         ensures { result ≡ owes_for self.now session.now prefix.now }
     {
         owes_for(&self.net, session, self.best(session.from), prefix)
@@ -188,13 +187,16 @@ impl Engine {
         requires whole { IsWhole self.old }
         requires can { IsTrue (can self.old (Event.Send from to)) }
         ensures ok { OnOk result
-            (self.new ≡ send self.old from to (owed_by self.old (session self.old from to))) }
+            (self.new
+            ≡ send self.old from to
+            (next_message (owed_by self.old (session self.old from to)))) }
         ensures err { OnErr result (self.new ≡ self.old) }
     {
         match self.place(from, to) {
             Some(at) => {
                 let best = &self.ribs[from.0 as usize].best;
-                let message = message(alloc, &self.net, &self.sessions[at], best)?;
+                let lists = listed(alloc, &self.net, &self.sessions[at], best)?;
+                let message = message(alloc, &self.net, &self.sessions[at], best, &lists)?;
                 self.sessions[at].put_out(alloc, message)
             }
             None => Ok(()),

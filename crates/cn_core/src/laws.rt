@@ -1,6 +1,7 @@
 //! What holds of the state after every run. Each function does nothing; its contract is the law.
 
-ghost use Rattle.cn_core.specs.Laws.{FirstLaw, OwedLaw, QuietLaw, RunLaw, StandingLaw};
+ghost use Rattle.cn_core.specs.Laws.{FirstLaw, QuietLaw, RunLaw, StandingLaw};
+ghost use Rattle.cn_core.specs.Owed.{CoveredOwedLaw, DecidedOwedLaw, EmptyOwedLaw, GetOwedLaw, SentOwedLaw};
 
 /// The invariants hold after every run: the messages of each mailbox lead from what came in to what
 /// was sent, a clean prefix has the best choice that a decision would give, a mailbox holds at most
@@ -26,7 +27,29 @@ pub fn first_law()
     ensures { FirstLaw }
 {}
 
-/// A session owes a message exactly where, for some prefix, what was sent isn't what is offered.
-pub fn owed_law()
-    ensures { OwedLaw }
+/// For a prefix, what is advertised is owed exactly where it isn't what was sent.
+pub fn get_owed()
+    ensures { GetOwedLaw }
+{}
+
+/// Nothing is owed exactly where, for each prefix, what was sent is what is advertised.
+pub fn empty_owed()
+    ensures { EmptyOwedLaw }
+{}
+
+/// A decision changes what is owed for its prefix alone, to what is owed of the new choice.
+pub fn decided_owed()
+    ensures { DecidedOwedLaw }
+{}
+
+/// Where what was sent comes to be what is advertised for some prefixes, these alone are owed no
+/// more.
+pub fn covered_owed()
+    ensures { CoveredOwedLaw }
+{}
+
+/// A message comes exactly where something is owed. Its prefix was owed, and is owed no more when
+/// the message is sent; of all others is owed what was.
+pub fn sent_owed()
+    ensures { SentOwedLaw }
 {}

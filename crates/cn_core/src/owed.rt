@@ -1,166 +1,193 @@
 //! What a session owes (RFC 4271, 9.2).
 
-ghost use Rattle.std.specs.Prelude.{◌≡◌, IfOk, Some, is_none, is_some, option_copied, option_map};
+ghost use Rattle.std.specs.Prelude.{◌≡◌, IfOk, OnErr, OnOk, None, Some, map, nat_lt, option_copied, option_map};
 ghost use Rattle.std.specs.FinMap as fin;
-ghost use Rattle.std.specs.List.{find};
-ghost use Rattle.cn_net.specs.Network.{IsDevice};
-ghost use Rattle.cn_core.specs.Owing.{differs};
-ghost use Rattle.cn_core.specs.Rows.{pair_of};
-ghost use Rattle.cn_core.specs.State.{announcement, is_news, offered_attributes, owed, wanted, withdrawal};
+ghost use Rattle.std.specs.List.{list_any};
+ghost use Rattle.cn_core.specs.Owed.{next_message, offered_attributes, owed, unless_sent};
+ghost use Rattle.cn_core.specs.OwedLists.{IsListed, due_of, empty_lists, with_all_due, with_due};
 
 use crate::message::Message;
 use crate::session::Session;
 use cn_base::{Attributes, Choice, DeviceId, Prefix, Route};
 use cn_net::Net;
-use cn_rib::{PrefixMap, Row};
+use cn_rib::{PrefixMap, PrefixSet, Row};
 use std::alloc::{AllocError, Global};
 
-// Whether nothing is offered for a prefix.
-#[tactic(auto, using(crate::proofs::Offers::offered_none, crate::proofs::Offers::offered_is_none))]
-fn is_withdrawn(
-    net: &Net,
-    from: DeviceId,
-    to: DeviceId,
-    best: &PrefixMap<Choice>,
-    prefix: &Prefix,
-) -> bool
-    requires from { IsDevice net.now from }
-    requires to { IsDevice net.now to }
-    ensures { result ≡ is_none (wanted net.now from to best.now prefix.now) }
+/// What a session owes for a prefix.
+#[derive(Clone, Copy)]
+pub enum Due {
+    Nothing,
+    Withdrawal,
+    Announcement,
+}
+
+/// The prefixes that a session is to withdraw, and those that it is to announce.
+#[derive(Drop)]
+pub struct Owed {
+    pub withdrawals: PrefixSet,
+    pub announcements: PrefixSet,
+}
+
+// ---- for one prefix
+
+// What is owed where nothing is offered.
+fn due_unoffered(sent: Option<&Attributes>) -> Due
+    ensures { result ≡ due_of (unless_sent (option_copied sent.entry) None) }
 {
-    match best.get(prefix) {
-        Some(choice) => !net.has_offer(from, to, prefix, &choice.path),
-        None => true,
+    match sent {
+        Some(_) => Due::Withdrawal,
+        None => Due::Nothing,
     }
 }
 
-// Whether something is offered of a choice that isn't what was sent.
-#[tactic(auto, using(crate::proofs::Offers::offered_none, crate::proofs::Offers::offered_is_none))]
-fn is_news(
+// What is owed for a prefix, by what was sent and by what the sender holds.
+fn due_with(
     net: &Net,
     from: DeviceId,
     to: DeviceId,
     prefix: &Prefix,
     sent: Option<&Attributes>,
-    choice: &Choice,
-) -> bool
-    requires from { IsDevice net.now from }
-    requires to { IsDevice net.now to }
+    held: Option<&Choice>,
+) -> Due
     ensures { result
-        ≡ is_news (option_copied sent.entry)
-        (offered_attributes net.now from to prefix.now (Some choice.now)) }
+        ≡ due_of (unless_sent (option_copied sent.entry)
+        (offered_attributes net.now from to prefix.now (option_copied held.entry))) }
 {
-    match sent {
-        Some(sent) => {
-            net.has_offer(from, to, prefix, &choice.path)
-                && !net.is_offer(
-                    from,
-                    to,
-                    prefix,
-                    &choice.path,
-                    choice.origin,
-                    &sent.path,
-                    sent.origin,
-                )
-        }
-        None => net.has_offer(from, to, prefix, &choice.path),
+    let Some(choice) = held else {
+        return due_unoffered(sent);
+    };
+    if !net.has_offer(from, to, prefix, &choice.path) {
+        return due_unoffered(sent);
     }
+    let Some(sent) = sent else {
+        return Due::Announcement;
+    };
+    if net.is_offer(
+        from,
+        to,
+        prefix,
+        &choice.path,
+        choice.origin,
+        &sent.path,
+        sent.origin,
+    ) {
+        return Due::Nothing;
+    }
+    Due::Announcement
 }
 
-// The first of these rows for whose prefix nothing is offered.
-fn first_withdrawn<'a>(
-    net: &Net,
-    from: DeviceId,
-    to: DeviceId,
-    best: &PrefixMap<Choice>,
-    sent: &'a [Row<Attributes>],
-) -> Option<&'a Row<Attributes>>
-    requires from { IsDevice net.now from }
-    requires to { IsDevice net.now to }
-    ensures { option_copied result
-        ≡ find (λ r. is_none (wanted net.now from to best.now r.prefix)) sent.now }
-{
-    sent.iter()
-        .find(|row| is_withdrawn(net, from, to, best, &row.prefix))
-}
-
-/// The row of the least prefix whose withdrawal is owed.
-pub fn withdrawal<'a>(
-    net: &Net,
-    session: &'a Session,
-    best: &PrefixMap<Choice>,
-) -> Option<&'a Row<Attributes>>
-    requires from { IsDevice net.now session.now.from }
-    requires to { IsDevice net.now session.now.to }
-    ensures { option_map pair_of (option_copied result)
-        ≡ withdrawal net.now session.now.from session.now.to session.now.sent best.now }
-{
-    first_withdrawn(net, session.from, session.to, best, session.sent.rows())
-}
-
-// The first of these rows of which something is offered that isn't what was sent.
-fn first_announced<'a>(
-    net: &Net,
-    session: &Session,
-    best: &'a [Row<Choice>],
-) -> Option<&'a Row<Choice>>
-    requires from { IsDevice net.now session.now.from }
-    requires to { IsDevice net.now session.now.to }
-    ensures { option_copied result
-        ≡ find (λ r. is_news (fin.get session.now.sent r.prefix)
-        (offered_attributes net.now session.now.from session.now.to r.prefix (Some r.value)))
-        best.now }
-{
-    best.iter().find(|row| {
-        let sent = session.sent.get(&row.prefix);
-        is_news(net, session.from, session.to, &row.prefix, sent, &row.value)
-    })
-}
-
-/// The row of the least prefix whose announcement is owed, where no withdrawal is.
-pub fn announcement<'a>(
-    net: &Net,
-    session: &Session,
-    best: &'a PrefixMap<Choice>,
-) -> Option<&'a Row<Choice>>
-    requires from { IsDevice net.now session.now.from }
-    requires to { IsDevice net.now session.now.to }
-    ensures { option_map pair_of (option_copied result)
-        ≡ announcement net.now session.now.from session.now.to session.now.sent best.now }
-{
-    first_announced(net, session, best.rows())
-}
-
-/// Whether a session owes a message.
-#[tactic(auto, unfolding(crate::specs::State::owed))]
-pub fn owes(net: &Net, session: &Session, best: &PrefixMap<Choice>) -> bool
-    requires from { IsDevice net.now session.now.from }
-    requires to { IsDevice net.now session.now.to }
+/// What a session owes for a prefix.
+pub fn due_for(net: &Net, session: &Session, best: &PrefixMap<Choice>, prefix: &Prefix) -> Due
     ensures { result
-        ≡ is_some (owed net.now session.now.from session.now.to session.now.sent best.now) }
+        ≡ due_of (fin.get
+        (owed net.now session.now.from session.now.to session.now.sent best.now) prefix.now) }
 {
-    withdrawal(net, session, best).is_some() || announcement(net, session, best).is_some()
+    due_with(
+        net,
+        session.from,
+        session.to,
+        prefix,
+        session.sent.get(prefix),
+        best.get(prefix),
+    )
 }
 
-/// Whether a session owes a message for a prefix.
+/// Whether a session owes a prefix.
 pub fn owes_for(net: &Net, session: &Session, best: &PrefixMap<Choice>, prefix: &Prefix) -> bool
-    requires from { IsDevice net.now session.now.from }
-    requires to { IsDevice net.now session.now.to }
     ensures { result
-        ≡ differs (fin.get session.now.sent prefix.now)
-        (wanted net.now session.now.from session.now.to best.now prefix.now) }
+        ≡ fin.contains_key
+        (owed net.now session.now.from session.now.to session.now.sent best.now) prefix.now }
 {
-    if is_withdrawn(net, session.from, session.to, best, prefix) {
-        return session.sent.get(prefix).is_some();
-    }
-    match best.get(prefix) {
-        Some(choice) => {
-            let sent = session.sent.get(prefix);
-            is_news(net, session.from, session.to, prefix, sent, choice)
-        }
-        None => false,
+    match due_for(net, session, best, prefix) {
+        Due::Nothing => false,
+        Due::Withdrawal | Due::Announcement => true,
     }
 }
+
+// ---- of a session
+
+/// Whether a session owes something.
+pub fn owes(net: &Net, session: &Session, best: &PrefixMap<Choice>) -> bool
+    ensures { result
+        ≡ nat_lt 0
+        (fin.len (owed net.now session.now.from session.now.to session.now.sent best.now)) }
+{
+    owes_any(net, session, best, session.sent.rows()) || owes_any(net, session, best, best.rows())
+}
+
+// Whether a session owes one of these prefixes.
+fn owes_any<V>(net: &Net, session: &Session, best: &PrefixMap<Choice>, rows: &[Row<V>]) -> bool
+    ensures { result
+        ≡ list_any (λ r. fin.contains_key
+        (owed net.now session.now.from session.now.to session.now.sent best.now) r.prefix)
+        rows.now }
+{
+    rows.iter()
+        .any(|row| owes_for(net, session, best, &row.prefix))
+}
+
+impl Owed {
+    // Nothing is owed.
+    fn new(alloc: Global) -> Owed
+        ensures { result ≡ empty_lists }
+    {
+        Owed {
+            withdrawals: PrefixSet::new(alloc),
+            announcements: PrefixSet::new(alloc),
+        }
+    }
+
+    /// The prefix stands in the list that it belongs to, and is taken out of none.
+    pub fn add(&mut self, prefix: &Prefix, due: Due) -> Result<(), AllocError>
+        ensures ok { OnOk result (self.new ≡ with_due self.old prefix.now due) }
+        ensures err { OnErr result (self.new ≡ self.old) }
+    {
+        match due {
+            Due::Nothing => Ok(()),
+            Due::Withdrawal => self.withdrawals.insert(*prefix),
+            Due::Announcement => self.announcements.insert(*prefix),
+        }
+    }
+
+    // The same, of each of these prefixes.
+    fn add_all<V>(
+        &mut self,
+        net: &Net,
+        session: &Session,
+        best: &PrefixMap<Choice>,
+        rows: &[Row<V>],
+    ) -> Result<(), AllocError>
+        ensures { OnOk result
+            (self.new
+            ≡ with_all_due
+            (owed net.now session.now.from session.now.to session.now.sent best.now)
+            self.old (map (λ r. r.prefix) rows.now)) }
+    {
+        for row in rows {
+            let due = due_for(net, session, best, &row.prefix);
+            self.add(&row.prefix, due)?;
+        }
+        Ok(())
+    }
+}
+
+/// What a session owes, found by looking at each prefix that was sent or is held.
+pub fn listed(
+    alloc: Global,
+    net: &Net,
+    session: &Session,
+    best: &PrefixMap<Choice>,
+) -> Result<Owed, AllocError>
+    ensures { IfOk result (λ lists. IsListed
+        (owed net.now session.now.from session.now.to session.now.sent best.now) lists) }
+{
+    let mut lists = Owed::new(alloc);
+    lists.add_all(net, session, best, session.sent.rows())?;
+    lists.add_all(net, session, best, best.rows())?;
+    Ok(lists)
+}
+
+// ---- the message
 
 // The announcement of what is offered of a choice.
 fn announced(
@@ -171,8 +198,6 @@ fn announced(
     prefix: &Prefix,
     choice: &Choice,
 ) -> Result<Option<Message>, AllocError>
-    requires from { IsDevice net.now from }
-    requires to { IsDevice net.now to }
     ensures { IfOk result (λ o. o
         ≡ option_map (Message.Announce prefix.now)
         (offered_attributes net.now from to prefix.now (Some choice.now))) }
@@ -189,31 +214,27 @@ fn announced(
     }
 }
 
-/// The message that a session owes.
-#[tactic(auto, unfolding(crate::specs::State::owed))]
+/// The first message of what a session owes.
 pub fn message(
     alloc: Global,
     net: &Net,
     session: &Session,
     best: &PrefixMap<Choice>,
+    lists: &Owed,
 ) -> Result<Option<Message>, AllocError>
-    requires from { IsDevice net.now session.now.from }
-    requires to { IsDevice net.now session.now.to }
-    ensures { IfOk result (λ message.
-        message ≡ owed net.now session.now.from session.now.to session.now.sent best.now) }
+    requires { IsListed
+        (owed net.now session.now.from session.now.to session.now.sent best.now) lists.now }
+    ensures { IfOk result (λ message. message
+        ≡ next_message (owed net.now session.now.from session.now.to session.now.sent best.now)) }
 {
-    if let Some(row) = withdrawal(net, session, best) {
-        return Ok(Some(Message::Withdraw { prefix: row.prefix }));
+    if let Some(prefix) = lists.withdrawals.first() {
+        return Ok(Some(Message::Withdraw { prefix }));
     }
-    match announcement(net, session, best) {
-        Some(row) => announced(
-            alloc,
-            net,
-            session.from,
-            session.to,
-            &row.prefix,
-            &row.value,
-        ),
+    let Some(prefix) = lists.announcements.first() else {
+        return Ok(None);
+    };
+    match best.get(&prefix) {
+        Some(choice) => announced(alloc, net, session.from, session.to, &prefix, choice),
         None => Ok(None),
     }
 }

@@ -10,7 +10,8 @@ ghost use Rattle.cn_net.specs.Network.{IsDevice};
 ghost use Rattle.cn_rib.specs.PrefixSet as set;
 ghost use Rattle.cn_core.specs.Order.{device_event, first_event, first_pending, has_mail, is_pending, owes_from, standing};
 ghost use Rattle.cn_core.specs.Owing.{ArePlacesOf, IsOwing, IsOwingAfter, IsOwingBut, IsOwingButFor, IsOwingDecided, IsOwingElsewhere, OwesNothingElse};
-ghost use Rattle.cn_core.specs.State.{is_session, owed_by, rib};
+ghost use Rattle.cn_core.specs.Owed.{owes};
+ghost use Rattle.cn_core.specs.State.{is_session, rib};
 ghost use Rattle.cn_core.specs.Whole.{IsWhole};
 
 use crate::engine::Engine;
@@ -54,9 +55,8 @@ impl Engine {
     fn still_owes(&self, session: &Session, prefix: &Prefix, before: bool) -> bool
         requires whole { IsWhole self.now }
         requires from { IsDevice self.now.net session.now.from }
-        requires to { IsDevice self.now.net session.now.to }
         requires before { before ≡ false → OwesNothingElse self.now session.now prefix.now }
-        ensures { result ≡ is_some (owed_by self.now session.now) }
+        ensures { result ≡ owes self.now session.now }
     {
         if self.owes_for(session, prefix) {
             return true;

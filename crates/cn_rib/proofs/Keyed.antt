@@ -83,10 +83,12 @@ module _ {X : Type 0} where
   no_entries [] e = refl
   no_entries (x ∷ es) e = absurd (omega arith)
 
-  entries_of_empty : fin.entries (fin.empty {X = X} {R = prefix_cmp}) ≡ []
+  -- an empty map has no entries
+  pub entries_of_empty : fin.entries (fin.empty {X = X} {R = prefix_cmp}) ≡ []
   entries_of_empty = no_entries _ (sym (fin.len-entries fin.empty) ∙ fin.len-empty prefix_cmp X)
 
-  empty_from_entries : (m : FinMap prefix_cmp X) → fin.entries m ≡ [] → m ≡ fin.empty
+  -- a map without entries is empty
+  pub empty_from_entries : (m : FinMap prefix_cmp X) → fin.entries m ≡ [] → m ≡ fin.empty
   empty_from_entries m e = fin.empty_of_len m (fin.len-entries m ∙ ap length e)
 
   -- a map that has a row is not empty
@@ -208,7 +210,8 @@ marked (Some x) (Some y) e = refl
 pub contains-empty : (q : Cidr) → contains empty q ≡ false
 contains-empty q = ap is_some (fin.get-empty prefix_cmp q)
 
-contains-insert : (s : PrefixSet) (p q : Cidr)
+-- what a set has after a prefix was put in
+pub contains-insert : (s : PrefixSet) (p q : Cidr)
     → contains (insert s p) q ≡ (same_prefix q p || contains s q)
 contains-insert s p q = ap is_some (get_inserted s p tt q) ∙ some_or _ (fin.get s q)
 
@@ -236,7 +239,8 @@ contains-keys : (s : PrefixSet) (q : Cidr)
     → contains s q ≡ list_any (same_prefix q) (fin.keys s)
 contains-keys s q = among_keys s q
 
-same_set : (s t : PrefixSet) → ((q : Cidr) → contains s q ≡ contains t q) → s ≡ t
+-- sets that have the same prefixes are the same
+pub same_set : (s t : PrefixSet) → ((q : Cidr) → contains s q ≡ contains t q) → s ≡ t
 same_set s t same = same_rows s t (λ q. marked (fin.get s q) (fin.get t q) (same q))
 
 -- what isn't in the set with p isn't p, and isn't in the set

@@ -2,3 +2,4 @@ pub mod Keyed
 pub mod Levels
 pub mod Prefixes
 pub mod Rows
+pub mod PrefixMaps

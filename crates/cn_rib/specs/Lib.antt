@@ -1,3 +1,4 @@
 pub mod Codes
 pub mod PrefixSet
 pub mod Tally
+pub mod PrefixMaps

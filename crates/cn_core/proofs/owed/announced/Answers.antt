@@ -3,7 +3,7 @@ use Rattle.std.specs.Prelude.{option_map}
 use Rattle.cn_base.specs.declared.route.Route.{Route}
 use Rattle.cn_core.proofs.Offers.{offered_some}
 use Rattle.cn_core.specs.declared.message.Message.TheVariants.{Announce}
-use Rattle.cn_core.specs.State.{attributes_of}
+use Rattle.cn_core.specs.Owed.{attributes_of}
 use Rattle.cn_core.proofs.owed.announced.Goals as goal
 
 pub returns-in-Some : goal.returns-in-Some

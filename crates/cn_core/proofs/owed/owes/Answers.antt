@@ -1,19 +1,31 @@
-use Rattle.std.proofs.Common.{◌≡◌, false, sym, ap, ◌∙◌}
-use Rattle.std.specs.Prelude.{◌||◌, is_some}
-use Rattle.cn_core.proofs.Owing.{owed_is_some}
-use Rattle.cn_core.proofs.Rowed.{some_copied}
-use Rattle.cn_core.specs.Rows.{pair_of}
-use Rattle.cn_core.specs.State.{announcement, withdrawal}
+use Rattle.std.proofs.Common.{sym, ap, ◌∙◌}
+use Rattle.std.specs.Prelude.{◌||◌}
+use Rattle.std.specs.List.{list_any}
+use Rattle.std.specs.FinMap as fin
+use Rattle.cn_core.specs.Owed.{owed}
+use Rattle.cn_core.proofs.Owes.{any-rows, owed-any}
 use Rattle.cn_core.proofs.owed.owes.Goals as goal
 
-pub returns-else-is_some : goal.returns-else-is_some
-returns-else-is_some c =
+pub returns-then-owes_any : goal.returns-then-owes_any
+returns-then-owes_any c =
     let x = c.args.session.now in
-    let w : is_some (withdrawal c.args.net.now x.from x.to x.sent c.args.best.now) ≡ false =
-    ap is_some (sym c.withdrawal.ensures) ∙ some_copied pair_of c.withdrawal.result
-    ∙ sym c.is_some.ensures ∙ c.if-is_some.false in
-    c.is_some-else-is_some.ensures ∙ sym (some_copied pair_of c.announcement.result)
-    ∙ ap is_some c.announcement.ensures
-    ∙ ap (λ b. b || is_some (announcement c.args.net.now x.from x.to x.sent c.args.best.now))
-    (sym w)
-    ∙ sym (owed_is_some c.args.net.now x.from x.to x.sent c.args.best.now)
+    let m = owed c.args.net.now x.from x.to x.sent c.args.best.now in
+    let sent = any-rows (λ r. r.prefix) (λ r. r.value) (fin.contains_key m) c.rows.result.now x.sent
+    c.rows.ensures in
+    c.if-owes_any.true
+    ∙ ap (λ b. b || list_any (fin.contains_key m) (fin.keys c.args.best.now))
+    (sym c.if-owes_any.true ∙ c.owes_any.ensures ∙ sent)
+    ∙ owed-any c.args.net.now x.from x.to x.sent c.args.best.now
+
+pub returns-else-owes_any : goal.returns-else-owes_any
+returns-else-owes_any c =
+    let x = c.args.session.now in
+    let m = owed c.args.net.now x.from x.to x.sent c.args.best.now in
+    let sent = any-rows (λ r. r.prefix) (λ r. r.value) (fin.contains_key m) c.rows.result.now x.sent
+    c.rows.ensures in
+    let held = any-rows (λ r. r.prefix) (λ r. r.value) (fin.contains_key m)
+    c.rows-else-owes_any.result.now c.args.best.now c.rows-else-owes_any.ensures in
+    c.owes_any-else-owes_any.ensures ∙ held
+    ∙ ap (λ b. b || list_any (fin.contains_key m) (fin.keys c.args.best.now))
+    (sym c.if-owes_any.false ∙ c.owes_any.ensures ∙ sent)
+    ∙ owed-any c.args.net.now x.from x.to x.sent c.args.best.now

@@ -8,11 +8,6 @@ owes-requires-clause-from c =
     (found_within c.args.self.now c.args.from c.args.to c.in-Some.session.now c.requires.whole
     (sym c.in-Some.ensures)).0
 
-pub owes-requires-clause-to : goal.owes-requires-clause-to
-owes-requires-clause-to c =
-    (found_within c.args.self.now c.args.from c.args.to c.in-Some.session.now c.requires.whole
-    (sym c.in-Some.ensures)).1
-
 pub returns-then-owes : goal.returns-then-owes
 returns-then-owes c =
     let x = c.in-Some.session.now in
