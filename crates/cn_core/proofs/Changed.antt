@@ -9,10 +9,12 @@ use Rattle.cn_base.specs.declared.route.Choice.{Choice}
 use Rattle.cn_net.specs.Network.{Network, IsDevice}
 use Rattle.cn_core.specs.declared.event.Event.TheVariants.{Send}
 use Rattle.cn_core.specs.declared.message.Message.{Message}
+use Rattle.cn_core.specs.declared.owed.Owed.{Owed}
 use Rattle.cn_core.specs.declared.session.Rib.{Rib}
 use Rattle.cn_core.specs.declared.session.Session.{Session}
 use Rattle.cn_core.specs.Machine.{can, decided, put_out, receive, send, with_dirty, taken_in, with_rib, with_session}
 use Rattle.cn_core.specs.Owed.{owed, owed_by, owes}
+use Rattle.cn_core.specs.OwedLists.{AreListed, IsListed}
 use Rattle.cn_core.specs.Parts.{put_out_if, received, received_of, with_all_dirty}
 use Rattle.cn_core.specs.State.{CoreState, empty_rib, empty_session, is_session, prefix_of, rib, session}
 use Rattle.cn_core.specs.Whole.{IsNowhere, IsPlaceOf, IsWhole}
@@ -167,6 +169,28 @@ module _ (nn : Network) (ss : List Session) (rs : List Rib) (s : CoreState)
       (read_rib a y range read ∙ ap (rib s) (sym from))
       ∙ ap (owed_by s) (sym (read_session a b i x p is))
 
+  -- the lists that were read are those of the session
+  pub listed_read : (os : List Owed) → AreListed (record { net = nn; sessions = ss; ribs = rs }) os
+      → (a b : DeviceId) (i : ℕ) (x : Session) (y : Rib) (o : Owed) → IsPlaceOf a b s.sessions i
+      → x ≡ get_or ss i x → a.0 < length s.ribs → y ≡ get_or rs a.0 y → o ≡ get_or os i o
+      → IsListed (owed nn x.from x.to x.sent y.best) o
+  listed_read os is a b i x y o p read range read_rib read_list =
+      let listed : AreListed s os = subst (λ (t : CoreState). AreListed t os) v is in
+      subst (λ m. IsListed m o) (sym (owed_read a b i x y p read range read_rib))
+      (subst (λ u. IsListed (owed_by s u) o) (sym (session_at s a b i x p))
+      (subst (IsListed (owed_by s (get_or s.sessions i x))) (sym read_list)
+      (listed.each i x o p.inside)))
+
+  -- what is owed over a session that was read
+  pub owed_by-read : (a b : DeviceId) (i : ℕ) (x z : Session) (y : Rib) → IsPlaceOf a b s.sessions i
+      → x ≡ get_or ss i x → z ≡ get_or ss i z → a.0 < length s.ribs → y ≡ get_or rs a.0 y
+      → owed nn x.from x.to x.sent y.best
+      ≡ owed_by (record { net = nn; sessions = ss; ribs = rs }) z
+  owed_by-read a b i x z y p read_x read_z range read_rib =
+      owed_read a b i x y p read_x range read_rib
+      ∙ ap (owed_by s) (read_session a b i z p read_z)
+      ∙ sym (ap (λ (t : CoreState). owed_by t z) v)
+
 -- ---- where an event may happen
 
 pub found_within : (s : CoreState) (a b : DeviceId) (x : Session) → IsWhole s
@@ -210,6 +234,11 @@ place_within s a b i w p =
       subst (λ l. a.0 < l) (sym w.ribs) (subst (IsDevice s.net) ends.0 in'.0),
       subst (λ l. b.0 < l) (sym w.ribs) (subst (IsDevice s.net) ends.1 in'.1),
     )
+
+-- a device has what it holds
+pub device_within : (s : CoreState) (d : DeviceId) → IsWhole s → IsDevice s.net d
+    → d.0 < length s.ribs
+device_within s d w is = subst (λ l. d.0 < l) (sym w.ribs) is
 
 pub both_ok : {T E P Q R : Type 0} (r : Result T E) → (P → Q → R) → OnOk r P → OnOk r Q → OnOk r R
 both_ok (Ok x) f p q = f p q

@@ -35,7 +35,8 @@ can_send s d x apart none e =
     found_one (λ y. has_mail y ≡ false) (owes_from s d) s.sessions x
     (none_passes has_mail s.sessions none) e in
     ap (λ o. is_some o &&
-    (owes s (session s x.from x.to) && nat_lt (length (session s x.from x.to).mail) 64)) (found_apart (owes_from s d) s.sessions x apart e)
+    (owes s (session s x.from x.to) && nat_lt (length (session s x.from x.to).mail) 64))
+    (found_apart (owes_from s d) s.sessions x apart e)
     ∙ ap (λ (y : Session). owes s y && nat_lt (length y.mail) 64) at
     ∙ ap (λ b. b && nat_lt (length x.mail) 64) some ∙ room (length x.mail) empty
   where

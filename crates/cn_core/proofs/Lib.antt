@@ -23,4 +23,6 @@ pub mod Logged
 pub mod Pulls
 mod Rowing
 mod Speaking
-mod Owings
+pub mod Lists
+pub mod ListsKept
+pub mod Finds

@@ -1,15 +1,18 @@
 -- The state of a history that has grown.
-use Rattle.std.proofs.Common.{◌≡◌, ℕ, false, List, [], ◌∷◌, ◌++◌, refl, sym, ap, ◌∙◌, subst}
-use Rattle.std.specs.Prelude.{Err, IsTrue, Ok, OnOk, Result, is_err}
+use Rattle.std.proofs.Common.{◌≡◌, ℕ, ◌<◌, false, List, [], ◌∷◌, ◌++◌, length, get_or, refl, sym, ap, ◌∙◌, subst}
+use Rattle.std.specs.Prelude.{All, Err, IsTrue, Ok, OnOk, Result, is_err}
 use Rattle.std.specs.List.{fold}
+use Rattle.cn_net.specs.Network.{Network}
 use Rattle.cn_record.specs.Recorded.{IsRecorded, RecordedOpening}
 use Rattle.cn_core.specs.declared.event.Event.{Event}
 use Rattle.cn_core.specs.declared.event.Step.{Step}
 use Rattle.cn_core.specs.declared.event.Step.TheVariants.{Work, Mark}
+use Rattle.cn_core.specs.declared.session.Rib.{Rib}
+use Rattle.cn_core.specs.declared.session.Session.{Session}
 use Rattle.cn_core.specs.Laws.{IsKept}
 use Rattle.cn_core.specs.Log.{IsState}
 use Rattle.cn_core.specs.Machine.{IsEnabled, IsRun, IsRunFrom, after_event, can, state, step}
-use Rattle.cn_core.specs.Start.{start}
+use Rattle.cn_core.specs.Start.{first_ribs, first_sessions, start}
 use Rattle.cn_core.specs.State.{CoreState}
 use Rattle.cn_core.specs.Whole.{IsWhole}
 use Rattle.cn_core.proofs.Kept.{run_holds}
@@ -74,3 +77,28 @@ pub opened : (r : RecordedOpening) (h : List Step) (t : CoreState) → IsRecorde
 opened r h t recorded none first =
     subst (λ h. IsState r h t) (sym none)
     (record { recorded = recorded; run = empty_run r; tables = first ∙ sym (state_nil r) })
+
+-- ---- the start
+
+whole_start : (r : RecordedOpening) → IsRecorded r → IsWhole (start r)
+whole_start r recorded =
+    whole_at r [] (start r) (opened r [] (start r) recorded refl refl)
+
+-- what is made of the parts of the start lies in order
+pub start_whole : (r : RecordedOpening) → IsRecorded r → (nn : Network) (ss : List Session)
+    (rs : List Rib)
+    → nn ≡ r.opening.net → ss ≡ first_sessions r.opening → rs ≡ first_ribs r
+    → IsWhole (record { net = nn; sessions = ss; ribs = rs })
+unfolding start
+start_whole r recorded nn ss rs net sessions ribs =
+    subst IsWhole
+    (λ i. record { net = sym net i; sessions = sym sessions i; ribs = sym ribs i })
+    (whole_start r recorded)
+
+-- and each sender is a device
+pub start_senders : (r : RecordedOpening) → IsRecorded r → (ss : List Session) (rs : List Rib)
+    → ss ≡ first_sessions r.opening → rs ≡ first_ribs r
+    → All (λ (x : Session). x.from.0 < length rs) ss
+start_senders r recorded ss rs sessions ribs k x lt =
+    let w = start_whole r recorded r.opening.net ss rs refl sessions ribs in
+    subst (λ l. (get_or ss k x).from.0 < l) (sym w.ribs) (w.within k x lt).0

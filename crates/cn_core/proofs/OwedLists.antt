@@ -1,16 +1,18 @@
 -- The two lists of what a session owes, and the message that goes first by them.
-use Rattle.std.proofs.Common.{◌≡◌, ℕ, ◌+◌, ◌<◌, ◌≤◌, Bool, true, false, List, [], ◌∷◌, drop, get_or, length, map, Option, Some, None, refl, sym, ap, ◌∙◌, inl, inr}
-use Rattle.std.specs.Prelude.{◌&&◌, ◌||◌, is_none, is_some, option_and_then, option_map, slice_get}
+use Rattle.std.proofs.Common.{◌≡◌, ℕ, ◌+◌, ◌<◌, ◌≤◌, Bool, true, false, List, [], ◌∷◌, drop, get_or, length, map, Option, Some, None, refl, sym, ap, ◌∙◌, inl, inr, arith}
+use Rattle.std.specs.Prelude.{◌==◌, ◌&&◌, ◌||◌, not, nat_lt, is_none, is_some, option_and_then, option_map, slice_get}
 use Rattle.std.specs.List.{find, list_any}
 use Rattle.std.specs.FinMap as fin
+use Rattle.std.proofs.lemmas.Bool.Decides.{nat_tests}
 use Rattle.std.proofs.lemmas.List.{drop_all, drop_more}
 use Rattle.cn_base.specs.Cidr.{Cidr, same_prefix}
+use Rattle.cn_base.specs.Table.{prefix_cmp}
 use Rattle.cn_base.specs.declared.ids.DeviceId.{DeviceId}
 use Rattle.cn_base.specs.declared.route.Attributes.{Attributes}
 use Rattle.cn_rib.specs.PrefixMaps.{picked, picked_entries}
 use Rattle.cn_rib.specs.PrefixSet.{PrefixSet}
 use Rattle.cn_rib.specs.PrefixSet as set
-use Rattle.cn_rib.proofs.Keyed.{contains-empty, contains-insert, same_set}
+use Rattle.cn_rib.proofs.Keyed.{contains-empty, contains-insert, found_first, get_empty, held_has_len, same_set}
 use Rattle.cn_rib.proofs.PrefixMaps.{entries-picked, get-picked}
 use Rattle.cn_rib.proofs.Prefixes.{same_tells}
 use Rattle.cn_net.specs.Network.{Network}
@@ -306,3 +308,62 @@ next_message-advertised net a b sent best x p is none least =
     let found = next_message-announcement (owed net a b sent best) x is p none least in
     ap (option_map (Announce p)) ((owed_some net a b sent best p (Some found.0)).0 found.1.0).0
     ∙ sym found.1.1
+
+-- ---- whether something is owed
+
+-- the lists are empty exactly where nothing is owed
+pub is_empty-listed : (m : OwedMap) (x : Owed) → IsListed m x
+    → ((fin.len x.withdrawals == 0) && (fin.len x.announcements == 0))
+    ≡ not (nat_lt 0 (fin.len m))
+is_empty-listed m x is =
+    elim (nat_lt 0 (fin.len m)) as (λ t. nat_lt 0 (fin.len m) ≡ t
+    → ((fin.len x.withdrawals == 0) && (fin.len x.announcements == 0)) ≡ not t) [
+      | true ↦ λ t. held (fin.entries m) refl (some (fin.len m) t)
+      | false ↦ λ t.
+          let none : m ≡ fin.empty = fin.empty_of_len m (zero_of (fin.len m) t) in
+          let empty : (b : Bool) → list_of b x ≡ set.empty =
+          λ b. same_set (list_of b x) set.empty (λ q. list_of-listed m x is b q
+          ∙ ap (λ n. belongs b (due_of (fin.get n q))) none
+          ∙ ap (λ o. belongs b (due_of o)) (get_empty q) ∙ nothing b
+          ∙ sym (contains-empty q)) in
+          (λ i. (fin.len (empty true i) == 0) && (fin.len (empty false i) == 0))
+          ∙ ap (λ n. (n == 0) && (n == 0)) (fin.len-empty prefix_cmp (Unit {0}))
+    ] refl
+  where
+    some : (n : ℕ) → nat_lt 0 n ≡ true → 0 < n
+    some n h = grind (arith, nat_tests)
+
+    zero_of : (n : ℕ) → nat_lt 0 n ≡ false → n ≡ 0
+    zero_of n h = grind (arith, nat_tests)
+
+    not_zero : (n : ℕ) → 0 < n → (n == 0) ≡ false
+    not_zero n h = grind (arith, nat_tests)
+
+    nothing : (b : Bool) → belongs b Nothing ≡ false
+    nothing true = refl
+    nothing false = refl
+
+    and_false' : (a : Bool) → (a && false) ≡ false
+    and_false' true = refl
+    and_false' false = refl
+
+    owed_there : (p : Cidr) (o : Option Attributes) → fin.get m p ≡ Some o
+        → ((fin.len x.withdrawals == 0) && (fin.len x.announcements == 0)) ≡ false
+    owed_there p None at =
+        ap (λ b. b && (fin.len x.announcements == 0))
+        (not_zero (fin.len x.withdrawals) (held_has_len x.withdrawals p
+        (is.withdrawals p ∙ ap (λ v. is_withdrawal (due_of v)) at)))
+    owed_there p (Some w) at =
+        ap (λ b. (fin.len x.withdrawals == 0) && b)
+        (not_zero (fin.len x.announcements) (held_has_len x.announcements p
+        (is.announcements p ∙ ap (λ v. is_announcement (due_of v)) at)))
+        ∙ and_false' (fin.len x.withdrawals == 0)
+
+    held : (es : List (Cidr × Option Attributes)) → fin.entries m ≡ es → 0 < fin.len m
+        → ((fin.len x.withdrawals == 0) && (fin.len x.announcements == 0)) ≡ false
+    held [] e lt =
+        let none : fin.len m ≡ 0 = fin.len-entries m ∙ ap length e in
+        absurd (omega (arith, lt, none))
+    held (y ∷ es) e lt =
+        owed_there y.0 y.1
+        (fin.get-entries m y.0 ∙ ap (fin.find prefix_cmp y.0) e ∙ found_first y es)

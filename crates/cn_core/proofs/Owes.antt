@@ -1,8 +1,7 @@
 -- What is owed, at each prefix, and the message that goes first of it.
-use Rattle.std.proofs.Common.{◌≡◌, ◌≢◌, ℕ, ◌<◌, Bool, true, false, cond, not, List, [], ◌∷◌, ◌++◌, length, map, Option, Some, None, refl, sym, ap, ◌∙◌, subst, inl, inr, eq-eqb, arith, true≢false}
+use Rattle.std.proofs.Common.{◌≡◌, ◌≢◌, ℕ, ◌<◌, Bool, true, false, cond, not, List, [], ◌∷◌, ◌++◌, length, Option, Some, None, refl, sym, ap, ◌∙◌, subst, inl, inr, eq-eqb, arith, true≢false}
 use Rattle.std.specs.Prelude.{◌↔◌, ◌==◌, ◌&&◌, ◌||◌, T, is_none, is_some, option_map, nat_lt, slice_get}
 use Rattle.std.specs.List.{find, list_any}
-use Rattle.std.specs.FinMap.{FinMap}
 use Rattle.std.specs.FinMap as fin
 use Rattle.std.proofs.lemmas.Bool.{eqb-true}
 use Rattle.std.proofs.lemmas.Bool.Decides.{nat_tests}
@@ -15,7 +14,7 @@ use Rattle.cn_base.specs.declared.ids.Origin.{Origin}
 use Rattle.cn_base.specs.declared.ids.Origin.TheVariants.{Igp, Egp, Incomplete}
 use Rattle.cn_base.specs.declared.route.Attributes.{Attributes}
 use Rattle.cn_rib.specs.PrefixMaps.{put_at}
-use Rattle.cn_rib.proofs.Keyed.{empty_from_entries, entries_of_empty, found_first, found_later, get_empty, get_outside_keys, get_removed_all, held_has_len, keys_of_rows, inserted_elsewhere, inserted_there, removed_elsewhere, removed_there, same_rows, sorted_parts}
+use Rattle.cn_rib.proofs.Keyed.{empty_from_entries, entries_of_empty, found_first, found_later, get_empty, get_outside_keys, get_removed_all, held_has_len, inserted_elsewhere, inserted_there, removed_elsewhere, removed_there, same_rows, sorted_parts}
 use Rattle.cn_rib.proofs.PrefixMaps.{get-put_all, get-put_at-elsewhere, get-put_at-there}
 use Rattle.cn_rib.proofs.Prefixes.{same_tells}
 use Rattle.cn_net.specs.Network.{Network}
@@ -24,7 +23,7 @@ use Rattle.cn_core.specs.declared.message.Message.{Message}
 use Rattle.cn_core.specs.declared.session.Session.{Session}
 use Rattle.cn_core.specs.Owed.{AdjRib, CoveredOwedLaw, DecidedOwedLaw, EmptyOwedLaw, GetOwedLaw, LocRib, OwedMap, SentOwedLaw, advertised, differs_from_sent, message_for, next_message, offered_attributes, or_first, owed, owed_by, owed_for, owes, same_attributes, same_numbers, unless_sent, without}
 use Rattle.cn_core.specs.State.{CoreState, apply, prefix_of}
-use Rattle.cn_core.proofs.Access.{and_parts, none_if}
+use Rattle.cn_core.proofs.Access.{and_parts}
 
 -- ---- attributes that are the same
 
@@ -450,76 +449,3 @@ owes-none s x e = fin.empty_of_len (owed_by s x) (none (fin.len (owed_by s x)) e
 -- where nothing is owed, no session owes
 pub owes-empty : (s : CoreState) (x : Session) → owed_by s x ≡ fin.empty → owes s x ≡ false
 owes-empty s x e = ap (nat_lt 0) (ap fin.len e ∙ fin.len-empty prefix_cmp (Option Attributes))
-
--- ---- a search for what is owed
-
-any-found : (t : Cidr → Bool) (ps : List Cidr) → list_any t ps ≡ true
-    → (p : Cidr) × (t p ≡ true)
-any-found t [] e = absurd (true≢false (sym e))
-any-found t (p ∷ ps) e =
-    elim (t p) as (λ b. t p ≡ b → (b || list_any t ps) ≡ true → (p : Cidr) × (t p ≡ true)) [
-      | true ↦ λ b e. (p, b)
-      | false ↦ λ b e. any-found t ps e
-    ] refl e
-
-any-missed : (t : Cidr → Bool) (ps : List Cidr) (q : Cidr) → list_any t ps ≡ false
-    → list_any (same_prefix q) ps ≡ true → t q ≡ false
-any-missed t [] q e among = absurd (true≢false (sym among))
-any-missed t (p ∷ ps) q e among =
-    let both = neither (t p) (list_any t ps) e in
-    elim (same_tells q p) [
-      | inl same ↦ ap t same.1 ∙ both.0
-      | inr other ↦
-          any-missed t ps q both.1
-          (sym (ap (λ b. b || list_any (same_prefix q) ps) other.0) ∙ among)
-    ]
-
--- something is owed exactly where a prefix that was sent or is held is
-pub owed-any : (net : Network) (a b : DeviceId) (sent : AdjRib) (best : LocRib)
-    → (list_any (fin.contains_key (owed net a b sent best)) (fin.keys sent)
-    || list_any (fin.contains_key (owed net a b sent best)) (fin.keys best))
-    ≡ nat_lt 0 (fin.len (owed net a b sent best))
-owed-any net a b sent best =
-    let m = owed net a b sent best in
-    let ps = fin.keys sent ++ fin.keys best in
-    sym (any-append (fin.contains_key m) (fin.keys sent) (fin.keys best))
-    ∙ elim (list_any (fin.contains_key m) ps) as
-    (λ t. list_any (fin.contains_key m) ps ≡ t → t ≡ nat_lt 0 (fin.len m)) [
-      | true ↦ λ t.
-          let found = any-found (fin.contains_key m) ps t in
-          some_there (fin.len m) (held_has_len m found.0 found.1)
-      | false ↦ λ t.
-          let none : m ≡ fin.empty =
-          same_rows m fin.empty (λ q. missed q t ∙ sym (get_empty q)) in
-          sym (ap (nat_lt 0) (ap fin.len none ∙ fin.len-empty prefix_cmp (Option Attributes)))
-    ] refl
-  where
-    some_there : (n : ℕ) → 0 < n → true ≡ nat_lt 0 n
-    some_there n h = grind (arith, nat_tests)
-
-    missed : (q : Cidr)
-        → list_any (fin.contains_key (owed net a b sent best)) (fin.keys sent ++ fin.keys best)
-        ≡ false
-        → fin.get (owed net a b sent best) q ≡ None
-    missed q none =
-        elim (list_any (same_prefix q) (fin.keys sent ++ fin.keys best)) as
-        (λ t. list_any (same_prefix q) (fin.keys sent ++ fin.keys best) ≡ t
-        → fin.get (owed net a b sent best) q ≡ None) [
-          | true ↦
-              λ t. none_if (fin.get (owed net a b sent best) q)
-              (any-missed (fin.contains_key (owed net a b sent best))
-              (fin.keys sent ++ fin.keys best) q none t)
-          | false ↦
-              λ t. get-owed-outside net a b sent best q
-              (sym (any-append (same_prefix q) (fin.keys sent) (fin.keys best)) ∙ t)
-        ] refl
-
-pub any-rows : {A X : Type 0} (prefix : A → Cidr) (value : A → X) (t : Cidr → Bool) (rows : List A)
-    (m : FinMap prefix_cmp X)
-    → map (λ r. (prefix r, value r)) rows ≡ fin.entries m
-    → list_any (λ r. t (prefix r)) rows ≡ list_any t (fin.keys m)
-any-rows {A} {X} prefix value t rows m is = mapped rows ∙ ap (list_any t) (keys_of_rows prefix value rows m is)
-  where
-    mapped : (rows : List A) → list_any (λ r. t (prefix r)) rows ≡ list_any t (map prefix rows)
-    mapped [] = refl
-    mapped (r ∷ rows) = ap (λ b. t (prefix r) || b) (mapped rows)

@@ -109,8 +109,8 @@ came_is_offered r s k valid no_mail none_owed a d p m =
           let empty =
           found_has (λ (y : Session). y.mail ≡ []) (is_session a d) s.sessions x no_mail e in
           let nothing =
-          found_has (λ (y : Session). owed_by s y ≡ fin.empty) (is_session a d) s.sessions x none_owed
-          e in
+          found_has (λ (y : Session). owed_by s y ≡ fin.empty) (is_session a d) s.sessions x
+          none_owed e in
           let ends = ends_are a d x transit.1 in
           let arrived : x.came ≡ x.sent = ap (apply_all x.came) (sym empty.0) ∙ transit.0 in
           let sent : fin.get x.sent p ≡ offered_attributes o.net a d p (held_in s a p) =

@@ -8,8 +8,7 @@ use Rattle.std.proofs.lemmas.List.{get_or-take, length-take-le}
 use Rattle.cn_base.specs.declared.ids.DeviceId.{DeviceId}
 use Rattle.cn_net.specs.Network.{same_device}
 use Rattle.cn_core.specs.declared.session.Session.{Session}
-use Rattle.cn_core.specs.Owing.{ArePlacesOf}
-use Rattle.cn_core.specs.Whole.{by_ends}
+use Rattle.cn_core.specs.Whole.{ArePlacesOf, by_ends}
 
 not_after : (x y : Session) → by_ends x y ≡ Less → x.from.0 ≤ y.from.0
 not_after x y h = grind (arith, nat_tests)

@@ -13,5 +13,4 @@ pub mod Whole
 pub mod Learnt
 pub mod Rows
 pub mod Codes
-pub mod Owing
 pub mod OwedLists

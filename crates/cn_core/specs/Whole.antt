@@ -1,11 +1,11 @@
 -- How the state lies in memory: in an order in which a session is found by halving.
-use Rattle.std.specs.Prelude.{◌≡◌, ℕ, ◌<◌, ◌≤◌, true, false, List, length, slice_index_or, All}
+use Rattle.std.specs.Prelude.{◌≡◌, ◌⊎◌, ℕ, ◌<◌, ◌≤◌, true, false, List, length, slice_index_or, All}
 use Rattle.std.specs.List.{AllPairs}
 use Rattle.std.specs.Ordering.{nat_cmp, on, then_cmp}
 use Rattle.std.specs.declared.cmp.Ordering.{Ordering}
 use Rattle.std.specs.declared.cmp.Ordering.TheVariants.{Less}
 use Rattle.cn_base.specs.declared.ids.DeviceId.{DeviceId}
-use Rattle.cn_net.specs.Network.{IsDevice, is_linked}
+use Rattle.cn_net.specs.Network.{IsDevice, is_linked, same_device}
 use Rattle.cn_core.specs.declared.session.Session.{Session}
 use Rattle.cn_core.specs.State.{CoreState, is_session}
 
@@ -32,3 +32,11 @@ pub record IsPlaceOf (a b : DeviceId) (xs : List Session) (i : ℕ) : Type 0 whe
 abbrev pub IsNowhere : DeviceId → DeviceId → List Session → Type 0
 IsNowhere a b xs =
     (k : ℕ) (d : Session) → k < length xs → is_session a b (slice_index_or xs k d) ≡ false
+
+-- the sessions from d stand at the places from `start` up to `end`
+pub record ArePlacesOf (d : DeviceId) (xs : List Session) (start end : ℕ) : Type 0 where
+  pub inside : end ≤ length xs
+  pub these : (k : ℕ) (x : Session) → start ≤ k → k < end
+      → same_device (slice_index_or xs k x).from d ≡ true
+  pub others : (k : ℕ) (x : Session) → k < length xs → (k < start) ⊎ (end ≤ k)
+      → same_device (slice_index_or xs k x).from d ≡ false

@@ -9,7 +9,6 @@ ghost use Rattle.cn_net.specs.Candidates.{best_of, rank_of, usable};
 ghost use Rattle.cn_net.specs.Network.{peers_of};
 ghost use Rattle.cn_core.specs.Learnt.{choice_with, learnt_choice};
 ghost use Rattle.cn_core.specs.Machine.{came_at};
-ghost use Rattle.cn_core.specs.Whole.{IsWhole};
 
 use crate::engine::Engine;
 use cn_base::{AsPath, Attributes, Choice, DeviceId, Prefix, Rank};
@@ -33,7 +32,6 @@ impl Engine {
         from: DeviceId,
         best: Option<Ranked<(DeviceId, &'a Attributes)>>,
     ) -> Option<Ranked<(DeviceId, &'a Attributes)>>
-        requires whole { IsWhole self.now }
         ensures { learnt_choice result
             ≡ better (learnt_choice best.entry)
             (option_map (with_rank (rank_of self.now.net))
@@ -56,7 +54,6 @@ impl Engine {
 
     // The best of what came in, and whom it came from, beside its rank.
     fn learnt(&self, device: DeviceId, prefix: &Prefix) -> Option<Ranked<(DeviceId, &Attributes)>>
-        requires whole { IsWhole self.now }
         ensures { learnt_choice result
             ≡ fold (λ best a. better best
             (option_map (with_rank (rank_of self.now.net))
@@ -77,7 +74,6 @@ impl Engine {
         device: DeviceId,
         prefix: &Prefix,
     ) -> Result<Option<Choice>, AllocError>
-        requires whole { IsWhole self.now }
         ensures { IfOk result
             (λ o. o ≡ best_of self.now.net (came_at self.now device prefix.now) device prefix.now) }
     {

@@ -35,8 +35,6 @@ pub struct Core {
     recorded: Snapshot<Recorded>,
     emulated: DeviceSet,
     engine: Engine,
-    // whether each session owes a message, by the place of the session
-    owing: Vec<bool>,
     history: Vec<Step>,
 }
 
@@ -44,7 +42,6 @@ impl Model for Core {
     ghost use Rattle.std.specs.Prelude.{◌≡◌};
     ghost use Rattle.cn_core.specs.Log.{IsState, Log};
     ghost use Rattle.cn_core.specs.LogCode.{log_code};
-    ghost use Rattle.cn_core.specs.Owing.{IsOwing};
 
     ghost Value = { Log };
 
@@ -53,7 +50,7 @@ impl Model for Core {
     ghost view = { λ c. record { recorded = c.recorded.value; history = c.history.items } };
 
     ghost invariant = { λ c. IsState c.recorded.value c.history.items c.engine
-        × (c.emulated ≡ c.recorded.value.opening.emulated) × IsOwing c.engine c.owing.items };
+        × (c.emulated ≡ c.recorded.value.opening.emulated) };
 }
 
 impl Core {
@@ -68,19 +65,11 @@ impl Core {
         let opening = Snapshot::of(&recorded);
         match open(alloc, recorded) {
             Ok(opened) => {
-                let Opened {
-                    engine,
-                    emulated,
-                    owing,
-                } = opened;
-                let mut owing = owing;
-                let places = owing.len();
-                engine.settle(&mut owing, 0, places);
+                let Opened { engine, emulated } = opened;
                 Ok(Core {
                     recorded: opening,
                     emulated,
                     engine,
-                    owing,
                     history: Vec::new(alloc),
                 })
             }
@@ -105,7 +94,6 @@ impl Core {
         if self.engine.apply(alloc, &event).is_err() {
             return Err(StepAnswer::Memory);
         }
-        self.engine.settle_after(&mut self.owing, &event);
         self.history.push_reserved(Step::Work(event));
         Ok(())
     }
@@ -130,14 +118,14 @@ impl Core {
         ensures none { (result ≡ None) ↔ IsQuiet (now self.now) }
         ensures kept { IsKept self.now.recorded (now self.now) }
     {
-        self.engine.first(&self.owing)
+        self.engine.first()
     }
 
     /// What is pending first. It takes no memory.
     pub fn standing(&self) -> Standing
         ensures { result ≡ standing (now self.now) }
     {
-        self.engine.standing(&self.owing)
+        self.engine.standing()
     }
 
     /// The tables of the emulated devices exactly where the state is quiet, and they are then those

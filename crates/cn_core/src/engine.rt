@@ -1,48 +1,53 @@
 //! The state behind a core: the network, its sessions, and what its devices hold.
 
-ghost use Rattle.std.specs.Prelude.{◌≡◌, ◌<◌, ◌&&◌, MatchOption, OnOk, OnErr, IsTrue, is_some, length, nat_lt, option_copied};
+ghost use Rattle.std.specs.Prelude.{◌≡◌, ◌<◌, ◌&&◌, MatchOption, OnOk, OnErr, IsTrue, length, nat_lt, option_copied, slice_index_or};
 ghost use Rattle.std.specs.List.{find};
 ghost use Rattle.std.specs.FinMap as fin;
 ghost use Rattle.cn_net.specs.Network.{IsDevice};
 ghost use Rattle.cn_rib.specs.PrefixSet as set;
 ghost use Rattle.cn_core.specs.Machine.{after_event, can, decide, receive, send};
-ghost use Rattle.cn_core.specs.Owing.{owes_for};
 ghost use Rattle.cn_core.specs.Owed.{next_message, owed_by, owes};
 ghost use Rattle.cn_core.specs.State.{is_session, rib, session};
-ghost use Rattle.cn_core.specs.Whole.{IsNowhere, IsPlaceOf, IsWhole};
+ghost use Rattle.cn_core.specs.Whole.{IsNowhere, IsPlaceOf};
+ghost use Rattle.cn_core.specs.declared.session.Session.{Session};
 
 use crate::event::Event;
-use crate::owed::{listed, message, owes, owes_for};
+use crate::owed::{Owed, decide, message, send};
 use crate::session::{Rib, Session, receive};
-use cn_base::{Attributes, Choice, DeviceId, Prefix};
+use cn_base::{Attributes, DeviceId, Prefix};
 use cn_net::Net;
-use cn_rib::PrefixMap;
 use std::alloc::{AllocError, Global};
 use std::marker::Model;
 
-/// The network, the sessions by `(from, to)`, and what each device holds, by its number.
+/// The network, the sessions by `(from, to)`, and what each device holds, by its number. Beside
+/// these what each session owes, by its place, is kept.
 #[derive(Drop)]
 pub struct Engine {
     pub net: Net,
     pub sessions: Vec<Session>,
     pub ribs: Vec<Rib>,
+    pub owed: Vec<Owed>,
 }
 
 impl Model for Engine {
     ghost use Rattle.cn_core.specs.State.{CoreState};
     ghost use Rattle.cn_core.specs.Codes.{state_code};
+    ghost use Rattle.cn_core.specs.OwedLists.{IsRight};
 
     ghost Value = { CoreState };
 
     ghost coded = { state_code };
 
     ghost view = { λ t. record { net = t.net; sessions = t.sessions.items; ribs = t.ribs.items } };
+
+    ghost invariant = { λ t.
+        IsRight (record { net = t.net; sessions = t.sessions.items; ribs = t.ribs.items })
+        t.owed.items };
 }
 
 impl Engine {
     /// The place of a session, found by halving.
     pub fn place(&self, from: DeviceId, to: DeviceId) -> Option<usize>
-        requires whole { IsWhole self.now }
         ensures { MatchOption result (IsNowhere from to self.now.sessions)
             (λ i. IsPlaceOf from to self.now.sessions i) }
     {
@@ -56,7 +61,6 @@ impl Engine {
     }
 
     fn session(&self, from: DeviceId, to: DeviceId) -> Option<&Session>
-        requires whole { IsWhole self.now }
         ensures { option_copied result ≡ find (is_session from to) self.now.sessions }
     {
         match self.place(from, to) {
@@ -68,7 +72,6 @@ impl Engine {
     /// What came in over a session for a prefix.
     #[tactic(auto, unfolding(crate::specs::State::session))]
     pub fn came(&self, from: DeviceId, to: DeviceId, prefix: &Prefix) -> Option<&Attributes>
-        requires whole { IsWhole self.now }
         ensures { option_copied result ≡ fin.get (session self.now from to).came prefix.now }
     {
         match self.session(from, to) {
@@ -78,46 +81,26 @@ impl Engine {
     }
 
     /// What a device holds.
-    #[tactic(auto, unfolding(crate::specs::State::rib), using(crate::proofs::Held::rib_read))]
     pub fn rib(&self, device: DeviceId) -> &Rib
-        requires { device.0 < length self.now.ribs }
+        requires { IsDevice self.now.net device }
         ensures { result.now ≡ rib self.now device }
     {
         &self.ribs[device.0 as usize]
     }
 
-    // The best routes of a device.
-    #[tactic(auto, unfolding(crate::specs::State::rib), using(crate::proofs::Held::rib_read))]
-    fn best(&self, device: DeviceId) -> &PrefixMap<Choice>
-        requires { device.0 < length self.now.ribs }
-        ensures { result.now ≡ (rib self.now device).best }
+    /// Whether the session at a place owes something.
+    pub fn owes(&self, place: usize) -> bool
+        requires { place < length self.now.sessions }
+        ensures { (x : Session)
+            → result ≡ owes self.now (slice_index_or self.now.sessions place x) }
     {
-        &self.ribs[device.0 as usize].best
-    }
-
-    /// Whether a session owes something.
-    pub fn owes(&self, session: &Session) -> bool
-        requires whole { IsWhole self.now }
-        requires from { IsDevice self.now.net session.now.from }
-        ensures { result ≡ owes self.now session.now }
-    {
-        owes(&self.net, session, self.best(session.from))
-    }
-
-    /// Whether a session owes a prefix.
-    pub fn owes_for(&self, session: &Session, prefix: &Prefix) -> bool
-        requires whole { IsWhole self.now }
-        requires from { IsDevice self.now.net session.now.from }
-        ensures { result ≡ owes_for self.now session.now prefix.now }
-    {
-        owes_for(&self.net, session, self.best(session.from), prefix)
+        !self.owed[place].is_empty()
     }
 
     // ---- whether an event is enabled
 
     #[tactic(auto, unfolding(crate::specs::State::session))]
     fn has_mail(&self, from: DeviceId, to: DeviceId) -> bool
-        requires whole { IsWhole self.now }
         ensures { result ≡ nat_lt 0 (length (session self.now from to).mail) }
     {
         match self.session(from, to) {
@@ -137,18 +120,16 @@ impl Engine {
     }
 
     fn can_send(&self, from: DeviceId, to: DeviceId) -> bool
-        requires whole { IsWhole self.now }
         ensures { result ≡ can self.now (Event.Send from to) }
     {
-        match self.session(from, to) {
-            Some(session) => self.owes(session) && session.mail.len() < 64,
+        match self.place(from, to) {
+            Some(at) => self.owes(at) && self.sessions[at].mail.len() < 64,
             None => false,
         }
     }
 
     /// Whether an event is enabled.
     pub fn can(&self, event: &Event) -> bool
-        requires whole { IsWhole self.now }
         ensures { result ≡ can self.now event.now }
     {
         match event {
@@ -161,8 +142,7 @@ impl Engine {
     // ---- an event that is enabled; all memory is taken before anything changes
 
     fn receive(&mut self, alloc: Global, from: DeviceId, to: DeviceId) -> Result<(), AllocError>
-        requires whole { IsWhole self.old }
-        requires mail { 0 < length (session self.old from to).mail }
+        requires { 0 < length (session self.old from to).mail }
         ensures ok { OnOk result
             (self.new ≡ receive self.old from to (session self.old from to).mail) }
         ensures err { OnErr result (self.new ≡ self.old) }
@@ -174,18 +154,27 @@ impl Engine {
     }
 
     fn decide(&mut self, alloc: Global, device: DeviceId, prefix: &Prefix) -> Result<(), AllocError>
-        requires whole { IsWhole self.old }
-        requires inside { device.0 < length self.old.ribs }
+        requires { device.0 < length self.old.ribs }
         ensures ok { OnOk result (self.new ≡ decide self.old device prefix.now) }
         ensures err { OnErr result (self.new ≡ self.old) }
     {
         let choice = self.decided(alloc, device, prefix)?;
-        self.ribs[device.0 as usize].decide(prefix, choice)
+        let (start, end) = self.places_from(device);
+        let rib = &mut self.ribs[device.0 as usize];
+        decide(
+            &self.net,
+            &self.sessions,
+            &mut self.owed,
+            start,
+            end,
+            rib,
+            prefix,
+            choice,
+        )
     }
 
     fn send(&mut self, alloc: Global, from: DeviceId, to: DeviceId) -> Result<(), AllocError>
-        requires whole { IsWhole self.old }
-        requires can { IsTrue (can self.old (Event.Send from to)) }
+        requires { IsTrue (can self.old (Event.Send from to)) }
         ensures ok { OnOk result
             (self.new
             ≡ send self.old from to
@@ -195,9 +184,9 @@ impl Engine {
         match self.place(from, to) {
             Some(at) => {
                 let best = &self.ribs[from.0 as usize].best;
-                let lists = listed(alloc, &self.net, &self.sessions[at], best)?;
-                let message = message(alloc, &self.net, &self.sessions[at], best, &lists)?;
-                self.sessions[at].put_out(alloc, message)
+                let lists = &self.owed[at];
+                let message = message(alloc, &self.net, &self.sessions[at], best, lists)?;
+                send(alloc, &mut self.sessions[at], &mut self.owed[at], message)
             }
             None => Ok(()),
         }
@@ -205,8 +194,7 @@ impl Engine {
 
     /// An event that is enabled happens. All memory is taken before anything changes.
     pub fn apply(&mut self, alloc: Global, event: &Event) -> Result<(), AllocError>
-        requires whole { IsWhole self.old }
-        requires can { IsTrue (can self.old event.now) }
+        requires { IsTrue (can self.old event.now) }
         ensures ok { OnOk result (self.new ≡ after_event self.old event.now) }
         ensures err { OnErr result (self.new ≡ self.old) }
     {

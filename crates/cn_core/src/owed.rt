@@ -1,13 +1,14 @@
 //! What a session owes (RFC 4271, 9.2).
 
-ghost use Rattle.std.specs.Prelude.{◌≡◌, IfOk, OnErr, OnOk, None, Some, map, nat_lt, option_copied, option_map};
+ghost use Rattle.std.specs.Prelude.{◌≡◌, ◌==◌, ◌&&◌, ◌<◌, ◌≤◌, IfOk, OnErr, OnOk, None, Some, length, map, option_copied, option_map};
 ghost use Rattle.std.specs.FinMap as fin;
-ghost use Rattle.std.specs.List.{list_any};
 ghost use Rattle.cn_core.specs.Owed.{next_message, offered_attributes, owed, unless_sent};
-ghost use Rattle.cn_core.specs.OwedLists.{IsListed, due_of, empty_lists, with_all_due, with_due};
+ghost use Rattle.cn_core.specs.Machine.{decided};
+ghost use Rattle.cn_core.specs.OwedLists.{AreAdded, AreElsewhere, AreListedBut, AreListedFrom, AreSomeAdded, IsListed, due_of, empty_lists, only_due, with_all_due, with_due, without_message};
+ghost use Rattle.cn_core.specs.Parts.{put_out_if};
 
 use crate::message::Message;
-use crate::session::Session;
+use crate::session::{Rib, Session, prefix_of};
 use cn_base::{Attributes, Choice, DeviceId, Prefix, Route};
 use cn_net::Net;
 use cn_rib::{PrefixMap, PrefixSet, Row};
@@ -76,8 +77,8 @@ fn due_with(
     Due::Announcement
 }
 
-/// What a session owes for a prefix.
-pub fn due_for(net: &Net, session: &Session, best: &PrefixMap<Choice>, prefix: &Prefix) -> Due
+// What a session owes for a prefix.
+fn due_for(net: &Net, session: &Session, best: &PrefixMap<Choice>, prefix: &Prefix) -> Due
     ensures { result
         ≡ due_of (fin.get
         (owed net.now session.now.from session.now.to session.now.sent best.now) prefix.now) }
@@ -92,39 +93,7 @@ pub fn due_for(net: &Net, session: &Session, best: &PrefixMap<Choice>, prefix: &
     )
 }
 
-/// Whether a session owes a prefix.
-pub fn owes_for(net: &Net, session: &Session, best: &PrefixMap<Choice>, prefix: &Prefix) -> bool
-    ensures { result
-        ≡ fin.contains_key
-        (owed net.now session.now.from session.now.to session.now.sent best.now) prefix.now }
-{
-    match due_for(net, session, best, prefix) {
-        Due::Nothing => false,
-        Due::Withdrawal | Due::Announcement => true,
-    }
-}
-
 // ---- of a session
-
-/// Whether a session owes something.
-pub fn owes(net: &Net, session: &Session, best: &PrefixMap<Choice>) -> bool
-    ensures { result
-        ≡ nat_lt 0
-        (fin.len (owed net.now session.now.from session.now.to session.now.sent best.now)) }
-{
-    owes_any(net, session, best, session.sent.rows()) || owes_any(net, session, best, best.rows())
-}
-
-// Whether a session owes one of these prefixes.
-fn owes_any<V>(net: &Net, session: &Session, best: &PrefixMap<Choice>, rows: &[Row<V>]) -> bool
-    ensures { result
-        ≡ list_any (λ r. fin.contains_key
-        (owed net.now session.now.from session.now.to session.now.sent best.now) r.prefix)
-        rows.now }
-{
-    rows.iter()
-        .any(|row| owes_for(net, session, best, &row.prefix))
-}
 
 impl Owed {
     // Nothing is owed.
@@ -137,8 +106,30 @@ impl Owed {
         }
     }
 
-    /// The prefix stands in the list that it belongs to, and is taken out of none.
-    pub fn add(&mut self, prefix: &Prefix, due: Due) -> Result<(), AllocError>
+    /// Holds where nothing is owed.
+    pub fn is_empty(&self) -> bool
+        ensures { result
+            ≡ ((fin.len self.now.withdrawals == 0) && (fin.len self.now.announcements == 0)) }
+    {
+        self.withdrawals.is_empty() && self.announcements.is_empty()
+    }
+
+    // The prefix is taken out of the list that it doesn't belong to.
+    fn keep(&mut self, prefix: &Prefix, due: Due)
+        ensures { self.new ≡ only_due self.old prefix.now due }
+    {
+        match due {
+            Due::Nothing => {
+                self.withdrawals.remove(prefix);
+                self.announcements.remove(prefix);
+            }
+            Due::Withdrawal => self.announcements.remove(prefix),
+            Due::Announcement => self.withdrawals.remove(prefix),
+        }
+    }
+
+    // The prefix stands in the list that it belongs to, and is taken out of none.
+    fn add(&mut self, prefix: &Prefix, due: Due) -> Result<(), AllocError>
         ensures ok { OnOk result (self.new ≡ with_due self.old prefix.now due) }
         ensures err { OnErr result (self.new ≡ self.old) }
     {
@@ -185,6 +176,91 @@ pub fn listed(
     lists.add_all(net, session, best, session.sent.rows())?;
     lists.add_all(net, session, best, best.rows())?;
     Ok(lists)
+}
+
+// ---- after a decision
+
+// What these sessions owe for a prefix, once their sender holds a choice, is put in where it isn't.
+fn add_decided(
+    net: &Net,
+    sessions: &[Session],
+    lists: &mut Vec<Owed>,
+    start: usize,
+    end: usize,
+    prefix: &Prefix,
+    held: Option<&Choice>,
+) -> Result<(), AllocError>
+    requires inside { end ≤ length sessions.now }
+    requires many { length lists.old.items ≡ length sessions.now }
+    ensures added { OnOk result
+        (AreAdded net.now (option_copied held.entry) prefix.now sessions.now start end
+        lists.old.items lists.new.items) }
+    ensures some { AreSomeAdded net.now (option_copied held.entry) prefix.now sessions.now start end
+        lists.old.items lists.new.items }
+    ensures elsewhere { AreElsewhere start end lists.old.items lists.new.items }
+{
+    for at in start..end {
+        let session = &sessions[at];
+        let sent = session.sent.get(prefix);
+        let due = due_with(net, session.from, session.to, prefix, sent, held);
+        lists[at].add(prefix, due)?;
+    }
+    Ok(())
+}
+
+// A prefix is taken out of the lists of these sessions in which it doesn't belong.
+fn keep_due(
+    net: &Net,
+    sessions: &[Session],
+    best: &PrefixMap<Choice>,
+    lists: &mut Vec<Owed>,
+    start: usize,
+    end: usize,
+    prefix: &Prefix,
+)
+    requires inside { end ≤ length sessions.now }
+    requires many { length lists.old.items ≡ length sessions.now }
+    requires but { AreListedBut net.now best.now prefix.now sessions.now start end lists.old.items }
+    ensures listed { AreListedFrom net.now best.now sessions.now start end lists.new.items }
+    ensures elsewhere { AreElsewhere start end lists.old.items lists.new.items }
+{
+    for at in start..end {
+        let due = due_for(net, &sessions[at], best, prefix);
+        lists[at].keep(prefix, due);
+    }
+}
+
+/// A device holds a choice for a prefix, and its sessions, which stand at these places, have what
+/// they owe then. All memory is taken before anything is taken out, and given back in the end.
+pub fn decide(
+    net: &Net,
+    sessions: &[Session],
+    lists: &mut Vec<Owed>,
+    start: usize,
+    end: usize,
+    rib: &mut Rib,
+    prefix: &Prefix,
+    choice: Option<Choice>,
+) -> Result<(), AllocError>
+    requires inside { end ≤ length sessions.now }
+    requires many { length lists.old.items ≡ length sessions.now }
+    requires listed { AreListedFrom net.now rib.old.best sessions.now start end lists.old.items }
+    ensures ok { OnOk result (rib.new ≡ decided rib.old prefix.now choice) }
+    ensures err { OnErr result (rib.new ≡ rib.old) }
+    ensures listed { AreListedFrom net.now rib.new.best sessions.now start end lists.new.items }
+    ensures elsewhere { AreElsewhere start end lists.old.items lists.new.items }
+{
+    let held = choice.as_ref();
+    if let Err(no_memory) = add_decided(net, sessions, lists, start, end, prefix, held) {
+        keep_due(net, sessions, &rib.best, lists, start, end, prefix);
+        return Err(no_memory);
+    }
+    if let Err(no_memory) = rib.decide(prefix, choice) {
+        keep_due(net, sessions, &rib.best, lists, start, end, prefix);
+        return Err(no_memory);
+    }
+    keep_due(net, sessions, &rib.best, lists, start, end, prefix);
+    Ok(())
 }
 
 // ---- the message
@@ -237,4 +313,26 @@ pub fn message(
         Some(choice) => announced(alloc, net, session.from, session.to, &prefix, choice),
         None => Ok(None),
     }
+}
+
+/// A message is sent over a session, which owes its prefix no more.
+pub fn send(
+    alloc: Global,
+    session: &mut Session,
+    lists: &mut Owed,
+    message: Option<Message>,
+) -> Result<(), AllocError>
+    requires { length session.old.mail < 64 }
+    ensures session { OnOk result (session.new ≡ put_out_if message session.old) }
+    ensures lists { OnOk result (lists.new ≡ without_message lists.old message) }
+    ensures err_session { OnErr result (session.new ≡ session.old) }
+    ensures err_lists { OnErr result (lists.new ≡ lists.old) }
+{
+    let Some(message) = message else {
+        return Ok(());
+    };
+    let prefix = prefix_of(&message);
+    session.put_out(alloc, Some(message))?;
+    lists.keep(&prefix, Due::Nothing);
+    Ok(())
 }

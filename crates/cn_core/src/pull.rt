@@ -5,7 +5,6 @@ ghost use Rattle.cn_base.specs.Table.{AscendsByPrefix, choice_for};
 ghost use Rattle.cn_base.specs.Cidr.{Cidr};
 ghost use Rattle.cn_core.specs.Laws.{held_in};
 ghost use Rattle.cn_core.specs.Tables.{AreTables, DevicesAscend};
-ghost use Rattle.cn_core.specs.Whole.{IsWhole};
 ghost use Rattle.cn_net.specs.Network.{IsDevice};
 ghost use Rattle.std.specs.FinMap as fin;
 
@@ -124,8 +123,7 @@ fn table(alloc: Global, best: &PrefixMap<Choice>) -> Result<Table, AllocError>
 impl Engine {
     /// The tables of these devices.
     pub fn tables(&self, alloc: Global, devices: &DeviceSet) -> Result<Tables, AllocError>
-        requires whole { IsWhole self.now }
-        requires devices { All (IsDevice self.now.net) devices.now }
+        requires { All (IsDevice self.now.net) devices.now }
         ensures { IfOk result (λ tables. AreTables devices.now (held_in self.now) tables) }
     {
         let mut tables = Vec::with_capacity(alloc, devices.len())?;

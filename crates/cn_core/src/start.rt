@@ -1,16 +1,18 @@
 //! The state at the start: nothing was sent, the own prefixes of each emulated device are dirty,
 //! and each speaker holds what it says.
 
-ghost use Rattle.std.specs.Prelude.{◌≡◌, ◌++◌, ◌∷◌, [], IfErr, IfOk, OnOk, length, map, option_copied};
+ghost use Rattle.std.specs.Prelude.{◌≡◌, ◌++◌, ◌∷◌, ◌<◌, [], All, IfErr, IfOk, OnOk, length, map, option_copied};
 ghost use Rattle.std.specs.List.{filter};
 ghost use Rattle.cn_net.specs.Islands.{holds_device};
 ghost use Rattle.cn_net.specs.Network.{peers_of};
 ghost use Rattle.cn_record.specs.Rows.{AscendsByPair};
+ghost use Rattle.cn_core.specs.OwedLists.{AreListed};
 ghost use Rattle.cn_core.specs.Start.{emulated_rib, first_rib, first_ribs, first_sessions, rows_of, said_routes, speaker_rib, start, with_choice};
 ghost use Rattle.cn_core.specs.State.{empty_session};
 ghost use Rattle.cn_rib.specs.PrefixSet as set;
 
 use crate::engine::Engine;
+use crate::owed::{Owed, listed};
 use crate::session::{Rib, Session};
 use cn_base::{Choice, DeviceId, Prefix};
 use cn_lists::part_at;
@@ -184,12 +186,29 @@ fn ribs(alloc: Global, recorded: &Recorded) -> Result<Vec<Rib>, AllocError>
     Ok(ribs)
 }
 
-/// The state at the start, the emulated devices, and room to remember which sessions owe a message.
-/// None was looked at yet.
+// What each session owes.
+fn lists(
+    alloc: Global,
+    net: &Net,
+    sessions: &[Session],
+    ribs: &[Rib],
+) -> Result<Vec<Owed>, AllocError>
+    requires { All (λ x. x.from.0 < length ribs.now) sessions.now }
+    ensures { IfOk result (λ lists. AreListed
+        (record { net = net.now; sessions = sessions.now; ribs = ribs.now }) lists.items) }
+{
+    let mut lists = Vec::with_capacity(alloc, sessions.len())?;
+    for session in sessions {
+        let best = &ribs[session.from.0 as usize].best;
+        lists.push(listed(alloc, net, session, best)?)?;
+    }
+    Ok(lists)
+}
+
+/// The state at the start, and the emulated devices.
 pub struct Opened {
     pub engine: Engine,
     pub emulated: DeviceSet,
-    pub owing: Vec<bool>,
 }
 
 /// The state at the start. The opening is handed back for want of memory.
@@ -197,7 +216,6 @@ pub struct Opened {
 pub fn open(alloc: Global, recorded: Recorded) -> Result<Opened, Recorded>
     ensures engine { IfOk result (λ made. made.engine ≡ start recorded) }
     ensures emulated { IfOk result (λ made. made.emulated ≡ recorded.opening.emulated) }
-    ensures owing { IfOk result (λ made. length made.owing.items ≡ length made.engine.sessions) }
     ensures err { IfErr result (λ back. back ≡ recorded) }
 {
     let (Ok(sessions), Ok(ribs)) = (
@@ -206,7 +224,9 @@ pub fn open(alloc: Global, recorded: Recorded) -> Result<Opened, Recorded>
     ) else {
         return Err(recorded);
     };
-    let Ok(owing) = vec![in alloc; false; sessions.len()] else {
+    recorded.valid();
+    let net = recorded.certified().net();
+    let Ok(owed) = lists(alloc, net, &sessions, &ribs) else {
         return Err(recorded);
     };
     let (certified, _) = recorded.parts();
@@ -216,8 +236,8 @@ pub fn open(alloc: Global, recorded: Recorded) -> Result<Opened, Recorded>
             net,
             sessions,
             ribs,
+            owed,
         },
         emulated,
-        owing,
     })
 }

@@ -10,8 +10,10 @@ returns c =
     let x = c.args.session.now in
     let best = c.args.best.now in
     let m = owed c.args.net.now x.from x.to x.sent best in
-    let sent = keys_of_rows (λ r. r.prefix) (λ r. r.value) c.rows.result.now x.sent c.rows.ensures in
-    let held = keys_of_rows (λ r. r.prefix) (λ r. r.value) c.rows-2.result.now best c.rows-2.ensures in
+    let sent =
+    keys_of_rows (λ r. r.prefix) (λ r. r.value) c.rows.result.now x.sent c.rows.ensures in
+    let held =
+    keys_of_rows (λ r. r.prefix) (λ r. r.value) c.rows-2.result.now best c.rows-2.ensures in
     subst (IsListed m) (sym (c.in_ok-add_all-2.ensures
     ∙ (λ i. with_all_due m
     ((c.in_ok-add_all.ensures ∙ (λ j. with_all_due m (c.new-lists.ensures j) (sent j))) i)

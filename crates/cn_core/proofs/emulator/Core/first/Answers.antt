@@ -3,18 +3,9 @@ use Rattle.cn_core.specs.Laws.{IsKept}
 use Rattle.cn_core.specs.Log.{Log}
 use Rattle.cn_core.specs.Machine.{state}
 use Rattle.cn_core.specs.Order.{first_event}
-use Rattle.cn_core.specs.Owing.{IsOwing}
 use Rattle.cn_core.proofs.First.{first_none}
-use Rattle.cn_core.proofs.Logged.{kept_of, whole_at}
+use Rattle.cn_core.proofs.Logged.{kept_of}
 use Rattle.cn_core.proofs.emulator.Core.first.Goals as goal
-
-pub first-requires : goal.first-requires
-first-requires c = record {
-  whole =
-      whole_at c.self.inside.recorded.value c.self.inside.history.items c.self.inside.engine
-      c.self.invariant.0;
-  owing = subst (IsOwing c.self.inside.engine) (sym c.deref.ensures.value) c.self.invariant.2;
-}
 
 pub returns-clause-event : goal.returns-clause-event
 returns-clause-event c =

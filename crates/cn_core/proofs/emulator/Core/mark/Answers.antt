@@ -9,5 +9,4 @@ invariant_of-self-2 c = (
       c.self.inside.engine c.args.k c.self.invariant.0
       (c.push_reserved.ensures.items ∙ ap (λ l. l ++ Mark c.args.k ∷ []) c.reserve.ensures.items),
   c.self.invariant.1,
-  c.self.invariant.2,
 )

@@ -2,17 +2,12 @@ use Rattle.std.proofs.Common.{List, sym, ◌∙◌, subst}
 use Rattle.std.specs.Prelude.{All}
 use Rattle.cn_base.specs.declared.ids.DeviceId.{DeviceId}
 use Rattle.cn_net.specs.Network.{Network, IsDevice}
-use Rattle.cn_core.proofs.Logged.{kept_of, whole_at}
+use Rattle.cn_core.proofs.Logged.{kept_of}
 use Rattle.cn_core.proofs.Pulls.{pulled_again, pulled_quiet}
 use Rattle.cn_core.proofs.emulator.Core.pull.Goals as goal
 
-pub tables-requires-clause-whole : goal.tables-requires-clause-whole
-tables-requires-clause-whole c =
-    whole_at c.self.inside.recorded.value c.self.inside.history.items c.self.inside.engine
-    c.self.invariant.0
-
-pub tables-requires-clause-devices : goal.tables-requires-clause-devices
-tables-requires-clause-devices c =
+pub tables-requires : goal.tables-requires
+tables-requires c =
     let k =
     kept_of c.self.inside.recorded.value c.self.inside.history.items c.self.inside.engine
     c.self.invariant.0 in

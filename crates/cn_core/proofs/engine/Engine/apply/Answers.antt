@@ -4,7 +4,7 @@ use Rattle.cn_core.specs.Machine.{can}
 use Rattle.cn_core.proofs.Kept.{dirty_in_range}
 use Rattle.cn_core.proofs.engine.Engine.apply.Goals as goal
 
-pub decide-requires-clause-inside : goal.decide-requires-clause-inside
-decide-requires-clause-inside c =
+pub decide-requires : goal.decide-requires
+decide-requires c =
     dirty_in_range c.args.self.now c.in-Decide.device c.in-Decide.prefix
-    (subst (λ e. IsTrue (can c.args.self.now e)) c.in-Decide.is c.requires.can)
+    (subst (λ e. IsTrue (can c.args.self.now e)) c.in-Decide.is c.requires)

@@ -1,23 +1,43 @@
-use Rattle.std.proofs.Common.{sym, ap, ◌∙◌, length}
-use Rattle.std.specs.Prelude.{◌&&◌, nat_lt}
-use Rattle.cn_core.proofs.Changed.{can_send_found, found_within}
+use Rattle.std.proofs.Common.{◌≡◌, Some, get_or, sym, ap, ◌∙◌, length}
+use Rattle.std.specs.Prelude.{◌&&◌, nat_lt, is_some}
+use Rattle.std.specs.List.{find}
+use Rattle.cn_core.specs.Owed.{owes}
+use Rattle.cn_core.specs.State.{CoreState, empty_session, is_session, session}
+use Rattle.cn_core.proofs.Changed.{can_send_found}
+use Rattle.cn_core.proofs.Places.{found_at, not_found}
 use Rattle.cn_core.proofs.engine.Engine.can_send.Goals as goal
-
-pub owes-requires-clause-from : goal.owes-requires-clause-from
-owes-requires-clause-from c =
-    (found_within c.args.self.now c.args.from c.args.to c.in-Some.session.now c.requires.whole
-    (sym c.in-Some.ensures)).0
 
 pub returns-then-owes : goal.returns-then-owes
 returns-then-owes c =
-    let x = c.in-Some.session.now in
+    let s = c.args.self.now in
+    let a = c.args.from in
+    let b = c.args.to in
+    let x = c.index.result.now in
+    let read : x ≡ get_or s.sessions c.in-Some.at x =
+    c.index.ensures ∙ ap (λ (t : CoreState). get_or t.sessions c.in-Some.at x) c.self.view_is in
+    let found : find (is_session a b) s.sessions ≡ Some x =
+    found_at a b s.sessions c.in-Some.at x c.in-Some.ensures ∙ ap Some (sym read) in
     ap (λ l. nat_lt l 64) c.len.ensures.length
-    ∙ ap (λ b. b && nat_lt (length x.mail) 64) (sym c.if-owes.true ∙ c.owes.ensures)
-    ∙ can_send_found c.args.self.now c.args.from c.args.to x (sym c.in-Some.ensures)
+    ∙ ap (λ t. t && nat_lt (length x.mail) 64)
+    (sym c.if-owes.true ∙ c.owes.ensures x ∙ ap (owes s) (sym read))
+    ∙ can_send_found s a b x found
 
 pub returns-else-owes : goal.returns-else-owes
 returns-else-owes c =
-    let x = c.in-Some.session.now in
+    let s = c.args.self.now in
+    let a = c.args.from in
+    let b = c.args.to in
+    let x = get_or s.sessions c.in-Some.at (empty_session a b) in
     c.if-owes.false
-    ∙ ap (λ b. b && nat_lt (length x.mail) 64) (sym c.if-owes.false ∙ c.owes.ensures)
-    ∙ can_send_found c.args.self.now c.args.from c.args.to x (sym c.in-Some.ensures)
+    ∙ ap (λ t. t && nat_lt (length x.mail) 64)
+    (sym c.if-owes.false ∙ c.owes.ensures (empty_session a b))
+    ∙ can_send_found s a b x
+    (found_at a b s.sessions c.in-Some.at (empty_session a b) c.in-Some.ensures)
+
+pub returns-in-None : goal.returns-in-None
+returns-in-None c =
+    let s = c.args.self.now in
+    let a = c.args.from in
+    let b = c.args.to in
+    ap (λ o. is_some o && (owes s (session s a b) && nat_lt (length (session s a b).mail) 64))
+    (sym (not_found a b s.sessions c.in-None.ensures))

@@ -1,8 +1,9 @@
-use Rattle.std.proofs.Common.{ap, ◌∙◌, List, None, Some}
+use Rattle.std.proofs.Common.{subst, ap, ◌∙◌, List, None, Some}
 use Rattle.std.specs.Prelude.{Option}
 use Rattle.cn_base.specs.declared.ids.Asn.{Asn}
 use Rattle.cn_base.specs.declared.route.Choice.{Choice}
 use Rattle.cn_net.specs.Network.{own_origin}
+use Rattle.cn_core.specs.Whole.{IsWhole}
 use Rattle.cn_core.specs.State.{CoreState}
 use Rattle.cn_core.proofs.Decided.{learnt_decided, own_decided}
 use Rattle.cn_core.proofs.engine.Engine.decided.Goals as goal
@@ -28,13 +29,14 @@ returns-in_ok-copy-in-Some-learnt c =
       origin = c.in-Some-learnt.best.item.1.now.origin;
     }) in
     ap choice c.in_ok-copy-in-Some-learnt.ensures
-    ∙ learnt_decided s c.requires.whole c.args.device c.args.prefix.now
-    (c.in_default.ensures ∙ net) (Some c.in-Some-learnt.best) c.in-Some-learnt.ensures
+    ∙ learnt_decided s (subst IsWhole c.self.view_is c.self.invariant.whole)
+    c.args.device c.args.prefix.now (c.in_default.ensures ∙ net) (Some c.in-Some-learnt.best)
+    c.in-Some-learnt.ensures
 
 pub returns-in-None : goal.returns-in-None
 returns-in-None c =
     let s = c.args.self.now in
     let net =
     ap (λ (t : CoreState). own_origin t.net c.args.device c.args.prefix.now) c.self.view_is in
-    learnt_decided s c.requires.whole c.args.device c.args.prefix.now
-    (c.in_default.ensures ∙ net) None c.in-None.ensures
+    learnt_decided s (subst IsWhole c.self.view_is c.self.invariant.whole)
+    c.args.device c.args.prefix.now (c.in_default.ensures ∙ net) None c.in-None.ensures

@@ -3,9 +3,8 @@ use Rattle.std.specs.List.{AllPairs}
 use Rattle.std.specs.List.Sorted.{IsPartitionPoint, IsPartitionedBy}
 use Rattle.std.proofs.lemmas.List.Sorted.{IsNonDecreasingBy-take, IsPartitionPoint-from_clause, IsPartitionedBy-leb, IsPartitionedBy-ltb}
 use Rattle.cn_core.specs.declared.session.Session.{Session}
-use Rattle.cn_core.specs.Owing.{ArePlacesOf}
 use Rattle.cn_core.specs.State.{CoreState}
-use Rattle.cn_core.specs.Whole.{by_ends}
+use Rattle.cn_core.specs.Whole.{ArePlacesOf, IsWhole, by_ends}
 use Rattle.cn_core.proofs.Segments.{places_found, senders_rise}
 use Rattle.cn_core.proofs.engine.Engine.places_from.Goals as goal
 
@@ -21,7 +20,8 @@ returns c =
     let here : c.deref.result.now ≡ xs = c.deref.ensures.value ∙ sym c.deref-2.ensures.value in
     let rise =
     senders_rise xs
-    (subst (AllPairs (λ x y. by_ends x y ≡ Less)) (sym same) c.requires.whole.ascending) in
+    (subst (AllPairs (λ x y. by_ends x y ≡ Less)) (sym same)
+    (subst IsWhole c.self.view_is c.self.invariant.whole).ascending) in
     let bound : e ≤ length xs =
     subst (λ l. e ≤ length l) here c.partition_point-end.ensures.bound in
     let parted =

@@ -1,0 +1,6 @@
+use Rattle.cn_core.proofs.Starts.{AreListedSoFar}
+use Rattle.cn_core.proofs.start.lists.Given as goal
+
+abbrev pub invariant-loop-session : goal.invariant-loop-session
+invariant-loop-session l =
+    AreListedSoFar l.net l.sessions l.ribs l.session-index l.lists.items
