@@ -1,0 +1,97 @@
+//! Which slot of a tally comes first, while what is in them is taken out.
+
+use crate::words::same;
+use cn_rib::Tally;
+use std::alloc::Global;
+use std::test::Fail;
+
+// A case, how many slots, the slots to which one is added, and the slots that come first, one after
+// the other, as one is taken from each. The levels of a tally have edges at 64 and at 4,096 slots.
+const CASES: &[(&str, u32, &[u32], &str)] = &[
+    ("no slots", 0, &[], "None"),
+    (
+        "one slot twice",
+        3,
+        &[2, 1, 1],
+        "Some(1) Some(1) Some(2) None",
+    ),
+    (
+        "a full word",
+        64,
+        &[63, 0, 63],
+        "Some(0) Some(63) Some(63) None",
+    ),
+    (
+        "two words",
+        65,
+        &[64, 63, 0],
+        "Some(0) Some(63) Some(64) None",
+    ),
+    (
+        "a full top",
+        4096,
+        &[4095, 64, 63],
+        "Some(63) Some(64) Some(4095) None",
+    ),
+    (
+        "two tops",
+        4097,
+        &[4096, 4095, 64],
+        "Some(64) Some(4095) Some(4096) None",
+    ),
+    (
+        "eight tops",
+        32768,
+        &[32767, 4096, 4095],
+        "Some(4095) Some(4096) Some(32767) None",
+    ),
+    (
+        "65 tops",
+        262_145,
+        &[262_144, 262_143, 4096],
+        "Some(4096) Some(262143) Some(262144) None",
+    ),
+];
+
+// One is added to each of these slots.
+fn held(alloc: Global, slots: u32, places: &[u32]) -> Result<Tally, Fail> {
+    let mut tally = Tally::new(alloc, slots)?;
+    for slot in places {
+        let slot = *slot;
+        if slot < tally.slots() && tally.count(slot) < 9 {
+            tally.add(slot);
+        }
+    }
+    Ok(tally)
+}
+
+// The first slot, from which one is taken.
+fn take_first(tally: &mut Tally) -> Option<u32> {
+    let first = tally.first();
+    if let Some(slot) = first {
+        if slot < tally.slots() && tally.count(slot) > 0 {
+            tally.sub(slot);
+        }
+    }
+    first
+}
+
+fn firsts(alloc: Global, slots: u32, places: &[u32]) -> Result<String, Fail> {
+    let mut tally = held(alloc, slots, places)?;
+    let mut text = String::new(alloc);
+    for _ in places {
+        let first = take_first(&mut tally);
+        text.push_str(&format!(in alloc; "{first:?} ")?)?;
+    }
+    let last = take_first(&mut tally);
+    text.push_str(&format!(in alloc; "{last:?}")?)?;
+    Ok(text)
+}
+
+#[test]
+fn the_least_slot_comes_first(rt: HostRuntime) -> Result<(), Fail> {
+    for (case, slots, places, text) in CASES {
+        same(&rt, case, &firsts(rt.alloc(), *slots, places)?, text);
+    }
+    Ok(())
+}
