@@ -2,11 +2,11 @@
 //! functions with ample memory.
 //!
 //! A crate that has tests is proved twice, once without them and once with them. So what is tested
-//! on a network is tested here, and a crate below keeps the tests of what is private. `build` makes
-//! networks from rows and knows alone what a draft is made of, `nets` has those that several cases
-//! share, `opening` emulates devices by their names and records rows, and `words` turns answers
-//! into text. The other modules have a table of named cases each, with the text that is expected;
-//! an assertion that fails prints the name of its case.
+//! on a network is tested here, and what is tested of texts and of the edge in `cn_texts`. `build`
+//! makes networks from rows and knows alone what a draft is made of, `nets` has those that several
+//! cases share, `opening` emulates devices by their names and records rows, and `words` turns
+//! answers into text. The other modules have a table of named cases each, with the text that is
+//! expected; an assertion that fails prints the name of its case.
 //!
 //! The top call is made by `commands`, over a shelf and an out that tell what they hold, for the
 //! cases of `planning`, `running` and `failing`; `pieces` has the files, and `command_texts` what

@@ -11,6 +11,3 @@ mod script;
 
 pub use command::Command;
 pub use script::Script;
-
-#[cfg(test)]
-mod tests;

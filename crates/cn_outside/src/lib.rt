@@ -16,9 +16,9 @@
 //! `MemoryShelf` and `MemoryOut` tell what they hold, and their calls can be made to fail by
 //! number; `SureShelf` and `SureOut` tell what they hold, and no call fails but a read of a name
 //! that isn't held. `HostShelf` and `HostOut` are the host's files and standard output, of whose
-//! content nothing is told; what is proved of them is how they read and write, by the loops of
-//! `loops.rt`. Each shelf keeps its calls in a `Calls`, whose place is taken before the call is
-//! made, so that noting a call never wants memory.
+//! content nothing is told; what is proved of them is how they read and write, by `read_all` and
+//! `write_through`, which go over any reader and any writer. Each shelf keeps its calls in a
+//! `Calls`, whose place is taken before the call is made, so that noting a call never wants memory.
 #![tactic(auto)]
 
 mod calls;
@@ -31,9 +31,7 @@ mod sure;
 
 pub use calls::{Call, CallKind, Calls};
 pub use host::{HostOut, HostShelf};
+pub use loops::{read_all, write_through};
 pub use memory::{MemoryOut, MemoryShelf, Trip};
 pub use outside::{Out, ReadAnswer, Shelf, WriteAnswer};
 pub use sure::{SureOut, SureShelf};
-
-#[cfg(test)]
-mod tests;

@@ -18,6 +18,3 @@ mod selection;
 pub use plan::{NetText, read_net};
 pub use record::RowDraft;
 pub use selection::NameSelection;
-
-#[cfg(test)]
-mod tests;

@@ -14,6 +14,3 @@ mod read;
 
 pub use cn_change::{Command, Script};
 pub use read::read_script;
-
-#[cfg(test)]
-mod tests;

@@ -30,6 +30,3 @@ pub use fault::{bad_key_at, bad_shape, bad_shape_at, bad_value, bad_value_at, fr
 pub use items::{NameReader, Reader, each};
 pub use keys::{keys_ascend, only, unlisted_is_least};
 pub use lookup::{array_at, member, needed, table_of};
-
-#[cfg(test)]
-mod tests;

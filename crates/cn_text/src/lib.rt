@@ -27,6 +27,3 @@ pub use number::{Bad, number_has_one_spelling, read_number};
 pub use origin::{origin_has_one_spelling, origin_of, origin_text};
 pub use path::{PathAnswer, path_has_one_spelling, path_of, read_path};
 pub use print::{put_address, put_number, put_path, put_prefix};
-
-#[cfg(test)]
-mod tests;

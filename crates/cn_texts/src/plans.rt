@@ -1,7 +1,9 @@
-use super::*;
-use cn_base::{Name, Prefix};
+//! What is read of the texts of plans.
+
+use crate::words::{fault, path_text, prefix_text, same};
+use cn_base::Name;
 use cn_net::{DeviceDraft, LinkDraft};
-use cn_text::{TextAnswer, put_path, put_prefix};
+use cn_readnet::{NameSelection, NetText, RowDraft, read_net};
 use std::alloc::Global;
 use std::test::Fail;
 
@@ -68,11 +70,11 @@ record s2 0.0.0.0/0 path - Egp from -
         "version = 1\nemulate = [\"t2\", \"t1\"]\n",
         "emulate t2 t1\n",
     ),
-    ("version =", "toml "),
+    ("version =", "toml"),
     ("", "key version"),
     ("version = \"1\"\n", "shape version"),
-    ("version = 2\n", "version "),
-    ("version = 2\nmust = 3\n", "version "),
+    ("version = 2\n", "version 2"),
+    ("version = 2\nmust = 3\n", "version 2"),
     (
         "version = 1\nemulate = []\ndevice = [1]\n",
         "shape device[0]",
@@ -212,12 +214,6 @@ fn selects(alloc: Global, text: &mut String, selection: &NameSelection) -> Resul
     Ok(())
 }
 
-fn prefix_text(alloc: Global, prefix: &Prefix) -> Result<String, Fail> {
-    let mut text = Vec::new(alloc);
-    put_prefix(alloc, &mut text, prefix)?;
-    Ok(String::from_utf8(text)?)
-}
-
 fn device(alloc: Global, text: &mut String, device: &DeviceDraft) -> Result<(), Fail> {
     let (name, layer) = (device.name.text(), device.layer);
     let (asn, id) = (device.body.asn.0, device.id.0);
@@ -236,9 +232,7 @@ fn link(alloc: Global, link: &LinkDraft) -> Result<String, Fail> {
 
 fn record(alloc: Global, row: &RowDraft) -> Result<String, Fail> {
     let (device, prefix) = (row.device.text(), prefix_text(alloc, &row.prefix)?);
-    let mut path = Vec::new(alloc);
-    put_path(alloc, &mut path, &row.path)?;
-    let (path, origin) = (String::from_utf8(path)?, row.origin);
+    let (path, origin) = (path_text(alloc, &row.path)?, row.origin);
     let from = row.from.as_ref().map_or("-", Name::text);
     Ok(format!(in alloc; "\nrecord {device} {prefix} path {path} {origin:?} from {from}")?)
 }
@@ -259,23 +253,6 @@ fn plan(alloc: Global, plan: &NetText) -> Result<String, Fail> {
     Ok(text)
 }
 
-// The kind of a fault, and its path.
-fn fault(alloc: Global, answer: &TextAnswer) -> Result<String, Fail> {
-    let (kind, path): (&str, &[u8]) = match answer {
-        TextAnswer::NotUtf8 => ("utf8", b""),
-        TextAnswer::NotToml => ("toml", b""),
-        TextAnswer::Key { path } => ("key", path.items()),
-        TextAnswer::Shape { path } => ("shape", path.items()),
-        TextAnswer::Value { path } => ("value", path.items()),
-        TextAnswer::Version { .. } => ("version", b""),
-        TextAnswer::TooLong { .. } => ("long", b""),
-        TextAnswer::Name { path, .. } => ("name", path.items()),
-        TextAnswer::Memory => ("memory", b""),
-    };
-    let path = String::from_utf8(path.to_vec(alloc)?)?;
-    Ok(format!(in alloc; "{kind} {path}")?)
-}
-
 // What is read of these bytes.
 fn told(alloc: Global, bytes: &[u8]) -> Result<String, Fail> {
     match read_net(alloc, bytes) {
@@ -290,10 +267,9 @@ fn texts_are_read_or_not(rt: HostRuntime) -> Result<(), Fail> {
     for (front, texts) in TABLES {
         for (text, want) in *texts {
             let whole = format!(in alloc; "{front}{text}")?;
-            let found = told(alloc, whole.as_bytes())?;
-            assert_eq!(rt; found.as_str(), *want, "{text}");
+            same(&rt, text, &told(alloc, whole.as_bytes())?, want);
         }
     }
-    assert_eq!(rt; told(alloc, b"version = \xFF")?.as_str(), "utf8 ");
+    same(&rt, "no text", &told(alloc, b"version = \xFF")?, "utf8");
     Ok(())
 }
