@@ -18,7 +18,7 @@ use Rattle.cn_core.specs.OwedLists.{AreListed, IsListed}
 use Rattle.cn_core.specs.Parts.{put_out_if, received, received_of, with_all_dirty}
 use Rattle.cn_core.specs.State.{CoreState, empty_rib, empty_session, is_session, prefix_of, rib, session}
 use Rattle.cn_core.specs.Whole.{IsNowhere, IsPlaceOf, IsWhole}
-use Rattle.cn_core.proofs.Access.{ends_are, found_has}
+use Rattle.cn_core.proofs.Access.{ends_are}
 use Rattle.cn_core.proofs.Places.{changed_at, not_found, session_at}
 
 -- the rib that was read is that of the state
@@ -192,12 +192,6 @@ module _ (nn : Network) (ss : List Session) (rs : List Rib) (s : CoreState)
       ∙ sym (ap (λ (t : CoreState). owed_by t z) v)
 
 -- ---- where an event may happen
-
-pub found_within : (s : CoreState) (a b : DeviceId) (x : Session) → IsWhole s
-    → find (is_session a b) s.sessions ≡ Some x → IsDevice s.net x.from × IsDevice s.net x.to
-found_within s a b x w e =
-    (found_has (λ (y : Session). IsDevice s.net y.from × IsDevice s.net y.to) (is_session a b)
-    s.sessions x w.within e).0
 
 pub found_session : (s : CoreState) (a b : DeviceId) (x : Session)
     → find (is_session a b) s.sessions ≡ Some x → session s a b ≡ x

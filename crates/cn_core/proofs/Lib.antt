@@ -11,7 +11,6 @@ pub mod First
 pub mod Quiet
 pub mod Held
 pub mod Places
-pub mod Rowed
 pub mod Changed
 pub mod Decided
 pub mod Numbers

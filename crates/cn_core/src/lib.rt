@@ -3,7 +3,8 @@
 //!
 //! Contracts see a `Core` as its recorded opening (a network with its emulated devices, behind a
 //! certified boundary, and sound records of the others) and the history of its steps.
-//! `specs/State.antt` has the state that stands behind it, `specs/Start.antt` the start,
+//! `specs/State.antt` has the state that stands behind it, `specs/Owed.antt` what a session owes in
+//! it, `specs/Start.antt` the start,
 //! `specs/Machine.antt` each event's condition and its one result, `specs/Order.antt` what is
 //! pending and which event is first, `specs/Pulled.antt` what a pull shows, and `specs/Laws.antt`
 //! what holds after every run; `laws` has these as contracts. A call changes the history and

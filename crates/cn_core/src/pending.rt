@@ -32,7 +32,7 @@ impl Engine {
     }
 
     // The first session from a device that owes something.
-    fn owing_from(&self, device: DeviceId) -> Option<&Session>
+    fn debtor_from(&self, device: DeviceId) -> Option<&Session>
         ensures { option_copied result ≡ find (owes_from self.now device) self.now.sessions }
     {
         let (start, end) = self.places_from(device);
@@ -57,7 +57,7 @@ impl Engine {
         requires { IsDevice self.now.net device }
         ensures { result ≡ is_pending self.now device }
     {
-        self.least_dirty(device).is_some() || self.owing_from(device).is_some()
+        self.least_dirty(device).is_some() || self.debtor_from(device).is_some()
     }
 
     // The first pending device.
@@ -97,7 +97,7 @@ impl Engine {
         if let Some(prefix) = self.least_dirty(device) {
             return Some(Event::Decide { device, prefix });
         }
-        let session = self.owing_from(device)?;
+        let session = self.debtor_from(device)?;
         Some(Event::Send {
             from: session.from,
             to: session.to,

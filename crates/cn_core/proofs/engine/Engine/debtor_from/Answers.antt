@@ -2,7 +2,7 @@ use Rattle.std.proofs.Common.{sym, ap, ◌∙◌}
 use Rattle.std.specs.Prelude.{slice_index_or}
 use Rattle.cn_core.specs.State.{CoreState}
 use Rattle.cn_core.proofs.Finds.{find-owes_from, find-owes_from-none, none_before-next, none_before-start}
-use Rattle.cn_core.proofs.engine.Engine.owing_from.Goals as goal
+use Rattle.cn_core.proofs.engine.Engine.debtor_from.Goals as goal
 
 pub loop-at-init : goal.loop-at-init
 loop-at-init c = none_before-start c.args.self.now c.places_from-start.result.0
