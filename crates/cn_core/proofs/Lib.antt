@@ -25,3 +25,6 @@ mod Speaking
 pub mod Lists
 pub mod ListsKept
 pub mod Finds
+pub mod Play
+pub mod OneAnswer
+mod OneTable

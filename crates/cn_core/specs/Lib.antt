@@ -14,3 +14,5 @@ pub mod Learnt
 pub mod Rows
 pub mod Codes
 pub mod OwedLists
+pub mod Play
+pub mod PlayLaws

@@ -7,10 +7,11 @@
 //! it, `specs/Start.antt` the start,
 //! `specs/Machine.antt` each event's condition and its one result, `specs/Order.antt` what is
 //! pending and which event is first, `specs/Pulled.antt` what a pull shows, and `specs/Laws.antt`
-//! what holds after every run; `laws` has these as contracts. A call changes the history and
-//! nothing that a contract names beside it. What a device offers, accepts and prefers is defined in
-//! `cn_net`, and what a speaker says in `cn_record`; what is printed of a history or an answer is
-//! left to the crates above.
+//! what holds after every run; `laws` has these as contracts. `specs/Play.antt` says which
+//! histories are plays of a script and which answers come along one, whoever makes them; `plays`
+//! has the laws of these. A call changes the history and nothing that a contract names beside it.
+//! What a device offers, accepts and prefers is defined in `cn_net`, and what a speaker says in
+//! `cn_record`; what is printed of a history or an answer is left to the crates above.
 #![tactic(auto)]
 
 mod answer;
@@ -22,6 +23,7 @@ pub mod laws;
 mod message;
 mod owed;
 mod pending;
+pub mod plays;
 mod pull;
 mod session;
 mod start;

@@ -1,67 +1,42 @@
--- A script run in the serial order: its play, and the answers to its commands.
-use Rattle.std.specs.Prelude.{ℕ, zero, suc, ◌+◌, ◌++◌, ◌∷◌, [], List, Some, None, map}
-use Rattle.std.specs.List.{fold}
+-- The serial play of a script: that in which each command does what comes first.
+use Rattle.std.specs.Prelude.{◌≡◌, ◌⊎◌, ℕ, ◌≤◌, ◌∷◌, [], List, length, Option, Some, None}
+use Rattle.cn_change.specs.declared.command.Command.{Command}
+use Rattle.cn_change.specs.declared.command.Command.TheVariants as command
 use Rattle.cn_record.specs.Recorded.{RecordedOpening}
-use Rattle.cn_core.specs.declared.answer.Answer.{Answer}
-use Rattle.cn_core.specs.declared.answer.Answer.TheVariants.{Done, Pulled}
 use Rattle.cn_core.specs.declared.event.Event.{Event}
 use Rattle.cn_core.specs.declared.event.Step.{Step}
 use Rattle.cn_core.specs.declared.event.Step.TheVariants.{Work, Mark}
-use Rattle.cn_core.specs.Log.{Log, now}
-use Rattle.cn_core.specs.Machine.{after_event, step}
-use Rattle.cn_core.specs.Start.{start}
+use Rattle.cn_core.specs.Machine.{after_event}
 use Rattle.cn_core.specs.Order.{first_event}
-use Rattle.cn_core.specs.Pulled.{IsPulled}
+use Rattle.cn_core.specs.Play.{AreParts, IsPlay, after}
+use Rattle.cn_core.specs.Start.{start}
 use Rattle.cn_core.specs.State.{CoreState}
-use Rattle.cn_change.specs.declared.command.Command.{Command}
-use Rattle.cn_change.specs.declared.command.Command.TheVariants as command
 
--- ---- the play
+-- each step is the event that comes next where it stands
+abbrev pub Follows : (CoreState → Option Event) → CoreState → List Step → Type 0
+Follows next s [] = Unit {0}
+Follows next s (Work e ∷ steps) = (next s ≡ Some e) × Follows next (after_event s e) steps
+Follows next s (Mark k ∷ steps) = ⊥
 
--- the first event again and again, until n have happened or the state is quiet
-unfoldable pub first_events : CoreState → ℕ → List Event
-first_events s zero = []
-first_events s (suc n) =
-    elim (first_event s) [ None ↦ [] | Some e ↦ e ∷ first_events (after_event s e) n ]
+-- the first event again and again, until n have happened or none is left
+pub record IsFirstWork (s : CoreState) (n : ℕ) (part : List Step) : Type 0 where
+  pub each : Follows first_event s part
+  pub few : length part ≤ n
+  pub end : (length part ≡ n) ⊎ (first_event (after s part) ≡ None)
 
--- the steps of a command, before its mark
-abbrev pub part_of : CoreState → Command → List Step
-part_of s command.Pull = []
-part_of s (command.Work n) = map Work (first_events s n)
+-- the steps are the serial part of a command that begins in state s
+abbrev pub IsSerialPart : CoreState → Command → List Step → Type 0
+IsSerialPart s command.Pull part = part ≡ []
+IsSerialPart s (command.Work n) part = IsFirstWork s n part
 
--- the steps of these commands, of which the first has number k: each part, and behind it the mark
-abbrev pub serial_play : CoreState → ℕ → List Command → List Step
-serial_play s k [] = []
-serial_play s k (c ∷ cs) =
-    part_of s c ++ Mark k ∷ serial_play (fold step s (part_of s c)) (k + 1) cs
+-- the history is the serial play of a script from an opening
+abbrev pub IsSerial : RecordedOpening → List Command → List Step → Type 0
+IsSerial r script h = AreParts IsSerialPart (start r) 1 script h
 
--- the serial play of a script from an opening
-abbrev pub play_of : RecordedOpening → List Command → List Step
-play_of r script = serial_play (start r) 1 script
-
--- ---- the answers
-
--- the log at the mark behind command number k
-abbrev pub at_mark : Log → ℕ → Command → Log
-at_mark l k c =
-    record { recorded = l.recorded; history = l.history ++ part_of (now l) c ++ Mark k ∷ [] }
-
--- the answer to a command, by the log at its mark
-abbrev pub IsAnswer : Log → Command → Answer → Type 0
-IsAnswer l command.Pull Done = ⊥
-IsAnswer l command.Pull (Pulled pull) = IsPulled l pull
-IsAnswer l (command.Work n) Done = Unit {0}
-IsAnswer l (command.Work n) (Pulled pull) = ⊥
-
--- the answers to these commands, of which the first has number k, one for each and in their order
-abbrev pub AreAnswersFrom : Log → ℕ → List Command → List Answer → Type 0
-AreAnswersFrom l k [] [] = Unit {0}
-AreAnswersFrom l k [] (a ∷ more) = ⊥
-AreAnswersFrom l k (c ∷ cs) [] = ⊥
-AreAnswersFrom l k (c ∷ cs) (a ∷ more) =
-    IsAnswer (at_mark l k c) c a × AreAnswersFrom (at_mark l k c) (k + 1) cs more
-
--- the answers to a script that is run from an opening
-abbrev pub AreAnswers : RecordedOpening → List Command → List Answer → Type 0
-AreAnswers r script answers =
-    AreAnswersFrom (record { recorded = r; history = [] }) 1 script answers
+-- a script has exactly one serial play, and it is a play
+pub record SerialLaw : Type 0 where
+  pub there : (r : RecordedOpening) (script : List Command) → (h : List Step) × IsSerial r script h
+  pub one : (r : RecordedOpening) (script : List Command) (h i : List Step)
+      → IsSerial r script h → IsSerial r script i → h ≡ i
+  pub play : (r : RecordedOpening) (script : List Command) (h : List Step) → IsSerial r script h
+      → IsPlay r script h

@@ -3,10 +3,11 @@
 //! `run_serial` makes the core of a recorded opening and does one command of the script after
 //! another: `work N` applies the first event in the serial order again and again, until N events
 //! have happened or the state is quiet, and `pull` asks what the devices hold. `after_command` does
-//! one command, for whoever keeps no answer until the next. `specs/Serial.antt` has the play that
-//! comes of it and the answers, over the state and the events of `cn_core`; by `laws::one_answer`
-//! no script has two lists of answers. What is printed of a history or an answer is left to
-//! `cn_trace` and `cn_report`, and reading a script to `cn_readscript`.
+//! one command, for whoever keeps no answer until the next. `specs/Serial.antt` says which of the
+//! plays of `cn_core` is the serial one, and `laws` that it is one and a play; `specs/Rounds.antt`
+//! has rounds, the serial order of a command that goes on until the state is quiet. What is printed
+//! of a history or an answer is left to `cn_trace` and `cn_report`, and reading a script to
+//! `cn_readscript`.
 #![tactic(auto)]
 
 pub mod laws;

@@ -1,10 +1,8 @@
 //! The run of a script.
 
-ghost use Rattle.std.specs.Prelude.{◌≡◌, ◌++◌, ◌≤◌, IfOk, OnOk, map};
-ghost use Rattle.cn_core.specs.Log.{now};
-ghost use Rattle.cn_core.specs.declared.event.Step.TheVariants.{Work};
-ghost use Rattle.cn_serial.specs.Ran.{IsRan};
-ghost use Rattle.cn_serial.specs.Serial.{IsAnswer, at_mark, first_events};
+ghost use Rattle.std.specs.Prelude.{IfOk, OnOk};
+ghost use Rattle.cn_core.specs.Play.{IsAnswer};
+ghost use Rattle.cn_serial.specs.Ran.{HasWorked, IsAfter, IsRan};
 
 use cn_base::Items;
 use cn_change::{Command, Script};
@@ -20,10 +18,9 @@ pub struct Ran {
 }
 
 // The first event happens, again and again, until so many have happened or the state is quiet.
+#[tactic(auto, using(crate::proofs::Runs::first_none))]
 fn work(alloc: Global, core: &mut Core, count: u32) -> Result<(), AllocError>
-    ensures recorded { core.new.recorded ≡ core.old.recorded }
-    ensures history { OnOk result
-        (core.new.history ≡ core.old.history ++ map Work (first_events (now core.old) count)) }
+    ensures { OnOk result (HasWorked core.old count core.new) }
 {
     for done in 0..count {
         let _ = done;
@@ -46,7 +43,7 @@ fn run_command(
     k: u32,
     command: &Command,
 ) -> Result<Answer, AllocError>
-    ensures log { OnOk result (core.new ≡ at_mark core.old k command.now) }
+    ensures after { OnOk result (IsAfter core.old k command.now core.new) }
     ensures answer { IfOk result (λ answer. IsAnswer core.new command.now answer) }
 {
     match command {
@@ -62,17 +59,17 @@ fn run_command(
     }
 }
 
-/// One command, whose number is `k`: the core at the mark behind it, and the answer. So each answer
-/// can be used and dropped before the next command is run. The error is want of memory, for which
-/// the core is dropped.
+/// One command, whose number is `k`: the core at the mark behind it, which its serial part led to,
+/// and the answer. So each answer can be used and dropped before the next command is run. The error
+/// is want of memory, for which the core is dropped.
 pub fn after_command(
     alloc: Global,
     core: Core,
     k: u32,
     command: &Command,
 ) -> Result<(Core, Answer), AllocError>
-    ensures log { IfOk result (λ after. after.0 ≡ at_mark core k command.now) }
-    ensures answer { IfOk result (λ after. IsAnswer after.0 command.now after.1) }
+    ensures after { IfOk result (λ next. IsAfter core k command.now next.0) }
+    ensures answer { IfOk result (λ next. IsAnswer next.0 command.now next.1) }
 {
     let mut core = core;
     let answer = run_command(alloc, &mut core, k, command)?;
@@ -80,7 +77,9 @@ pub fn after_command(
 }
 
 /// Runs a script in the serial order on the emulated devices of an opening, with speakers in place
-/// of the others. The error is want of memory.
+/// of the others: the core's history is the serial play of the script, which by
+/// `laws::serial_play` is one and a play, and the answers are those along it. The error is want of
+/// memory.
 pub fn run_serial(alloc: Global, recorded: Recorded, script: &Script) -> Result<Ran, AllocError>
     ensures { IfOk result (λ ran. IsRan recorded script.now ran) }
 {

@@ -2,6 +2,9 @@
 use Rattle.std.proofs.Common.{◌≡◌, inl, inr, ℕ, List, Ok, Result, refl, sym, ap, subst, ◌∙◌}
 use Rattle.cn_change.specs.declared.command.Command.{Command}
 use Rattle.cn_core.specs.declared.answer.Answer.{Answer}
+use Rattle.cn_core.specs.declared.event.Step.{Step}
+use Rattle.cn_core.specs.Play.{AreAnswers}
+use Rattle.cn_core.proofs.OneAnswer.{EmulatesItsOwn, answers_once}
 use Rattle.cn_open.specs.Depth.{sound}
 use Rattle.cn_open.specs.OpenFaults.{IsOpenFault}
 use Rattle.cn_open.specs.Opens.{IsSafePlan, Opens}
@@ -10,8 +13,9 @@ use Rattle.cn_open.proofs.OneOpening.{fault_once, opening_faultless, opening_onc
 use Rattle.cn_outside.specs.Shelf.{Held, IsTold, MayHold, absent, holds, untold}
 use Rattle.cn_readscript.specs.Script.{script_of}
 use Rattle.cn_record.specs.Recorded.{RecordedOpening}
-use Rattle.cn_serial.proofs.OneAnswer.{EmulatesItsOwn, answers_once}
+use Rattle.cn_serial.proofs.SerialPlay.{one_serial}
 use Rattle.cn_text.specs.declared.answer.TextAnswer.{TextAnswer}
+use Rattle.cn_trace.specs.Trace.{trace_text}
 use Rattle.cn_top.specs.Deed.{Deed}
 use Rattle.cn_top.specs.Form.{Form, plan_form, serial_form, later_form, usage_form, reads_of}
 use Rattle.cn_top.specs.Meaning.{HoldsFault, HoldsNoScript, HoldsOpening, HoldsSafePlan, HoldsScript, IsRight, IsValidInput, IsWrong, IsWrongPlan, OneMeaning, Plans, Runs, TellsAll, plan_deed, run_deed}
@@ -36,8 +40,12 @@ same_commands read x y p q = cc
 run_once : (r : RecordedOpening) (commands : List Command) (x y : Run) → EmulatesItsOwn r
     → IsRunOf r commands x → IsRunOf r commands y → x ≡ y
 run_once r commands x y own h k =
-    let answers = answers_once r commands h.answers k.answers own h.answered k.answered in
-    let traces : x.trace ≡ y.trace = h.traced ∙ sym k.traced in
+    let same = one_serial r commands h.history k.history h.serial k.serial in
+    let answers =
+    answers_once r commands k.history h.answers k.answers own
+    (subst (λ (g : List Step). AreAnswers r commands g h.answers) same h.answered) k.answered in
+    let traces : x.trace ≡ y.trace =
+    h.traced ∙ ap (trace_text r.opening.net) same ∙ sym k.traced in
     let texts : x.texts ≡ y.texts =
     h.told ∙ ap (λ (xs : List Answer). answer_texts r.opening.net 1 commands xs) answers
     ∙ sym k.told in

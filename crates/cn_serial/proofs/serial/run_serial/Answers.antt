@@ -26,7 +26,7 @@ loop-command-preserved c =
           c.in_ok-run_command.field-0 c.loop-command-test.true
           (get_or_default commands i Pull command c.loop-command-test.true)
           c.loop-command.invariant.1
-          c.in_ok-run_command.ensures.log c.in_ok-run_command.ensures.answer
+          c.in_ok-run_command.ensures.after c.in_ok-run_command.ensures.answer
           c.loop-command.invariant.0),
       omega (arith, c.loop-command.invariant.1),
     )
@@ -34,8 +34,10 @@ loop-command-preserved c =
 pub returns : goal.returns
 returns c =
     let r = c.args.recorded in
-    subst (λ s. IsRan r s (record { core = c.loop-command.core; answers = c.make.result }))
+    let core = c.loop-command.core in
+    let commands = c.items-command-items.result.now in
+    subst (λ s. IsRan r s (record { core = core; answers = c.make.result }))
     c.items-command-items.ensures.same
-    (run_done r c.items-command-items.result.now c.loop-command.command-index c.loop-command.core
-    c.loop-command.answers.items _ c.loop-command-test.false c.loop-command.invariant.0 refl
-    c.make.ensures)
+    (subst (λ a. IsRan r commands (record { core = core; answers = a })) (sym c.make.ensures)
+    (run_done r commands c.loop-command.command-index core c.loop-command.answers.items
+    c.loop-command-test.false c.loop-command.invariant.0))

@@ -1,8 +1,8 @@
-use Rattle.std.proofs.Common.{sym, ap, ◌∙◌, subst}
+use Rattle.std.proofs.Common.{sym, ◌∙◌, subst, inl, inr, arith}
 use Rattle.cn_core.specs.declared.emulator.StepAnswer.{StepAnswer}
-use Rattle.cn_core.specs.Log.{IsRefusal, Log, now}
+use Rattle.cn_core.specs.Log.{IsRefusal, now}
 use Rattle.cn_core.proofs.First.{first_enabled}
-use Rattle.cn_serial.proofs.Runs.{all_happened, ended, happened, none_first}
+use Rattle.cn_serial.proofs.Runs.{first_done, first_more}
 use Rattle.cn_serial.proofs.serial.work.Goals as goal
 
 pub unreachable-requires : goal.unreachable-requires
@@ -13,22 +13,22 @@ unreachable-requires c =
     (first_enabled l.recorded (now l) c.in-Some.event c.first.ensures.kept
     (sym c.first.ensures.event ∙ c.in-Some.is))
 
-pub returns-in-None-clause-history : goal.returns-in-None-clause-history
-returns-in-None-clause-history c =
-    let l = c.loop-done.core in
-    sym (ended l _ (none_first (now l) _ (sym c.first.ensures.event ∙ c.in-None.is)))
-    ∙ c.loop-done.invariant.1
-
 pub loop-done-preserved : goal.loop-done-preserved
 loop-done-preserved c =
     let l = c.loop-done.core in (
-      ap (λ (m : Log). m.recorded) c.in-Ok.ensures.ok ∙ c.loop-done.invariant.0,
-      happened l c.step.new.self c.in-Some.event c.args.count c.loop-done.done c.loop-done-test.true
-          (sym c.first.ensures.event ∙ c.in-Some.is) c.in-Ok.ensures.ok
-          ∙ c.loop-done.invariant.1,
+      first_more c.args.core.now l c.step.new.self c.loop-done.done c.in-Some.event
+          c.loop-done.invariant.0 (sym c.first.ensures.event ∙ c.in-Some.is) c.in-Ok.ensures.ok,
+      omega (arith, c.loop-done-test.true),
     )
 
-pub returns-clause-history : goal.returns-clause-history
-returns-clause-history c =
-    sym (all_happened c.loop-done.core c.args.count c.loop-done.done c.loop-done-test.false)
-    ∙ c.loop-done.invariant.1
+pub returns-in-None : goal.returns-in-None
+returns-in-None c =
+    first_done c.args.core.now c.loop-done.core c.loop-done.done c.args.count
+    c.loop-done.invariant.0 c.loop-done.invariant.1
+    (inr (sym c.first.ensures.event ∙ c.in-None.is))
+
+pub returns : goal.returns
+returns c =
+    first_done c.args.core.now c.loop-done.core c.loop-done.done c.args.count
+    c.loop-done.invariant.0 c.loop-done.invariant.1
+    (inl (omega (arith, c.loop-done.invariant.1, c.loop-done-test.false)))

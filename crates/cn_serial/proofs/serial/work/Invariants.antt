@@ -1,11 +1,6 @@
-use Rattle.std.proofs.Common.{◌≡◌, ◌-◌, ◌++◌, map}
-use Rattle.cn_core.specs.declared.event.Step.TheVariants.{Work}
-use Rattle.cn_core.specs.Log.{now}
-use Rattle.cn_serial.specs.Serial.{first_events}
+use Rattle.std.proofs.Common.{◌≤◌}
+use Rattle.cn_serial.proofs.Runs.{HasFirst}
 use Rattle.cn_serial.proofs.serial.work.Given as goal
 
 abbrev pub invariant-loop-done : goal.invariant-loop-done
-invariant-loop-done l =
-    (l.core.recorded ≡ l.fn.core.recorded)
-    × (l.core.history ++ map Work (first_events (now l.core) (l.count - l.done))
-    ≡ l.fn.core.history ++ map Work (first_events (now l.fn.core) l.count))
+invariant-loop-done l = HasFirst l.fn.core l.done l.core × (l.done ≤ l.count)

@@ -5,7 +5,6 @@ use Rattle.cn_core.specs.Log.{Log}
 use Rattle.cn_net.specs.Network.{Network}
 use Rattle.cn_record.specs.Recorded.{RecordedOpening}
 use Rattle.cn_report.specs.Answers.{answer_text}
-use Rattle.cn_serial.proofs.Runs.{run_recorded}
 use Rattle.cn_trace.specs.Trace.{trace_text}
 use Rattle.cn_top.specs.Serial.{IsRunOf}
 use Rattle.cn_top.proofs.Told.{IsToldSoFar, told_done, told_more, told_none}
@@ -28,8 +27,7 @@ loop-command-preserved c =
     let so = c.loop-command.invariant.0 in
     let next = c.in_ok-next.next in
     let kept : next.recorded ≡ r =
-    ap (λ (l : Log). l.recorded) c.in_ok-next.ensures.log
-    ∙ run_recorded r commands i c.loop-command.core so.given so.run in
+    ap (λ (l : Log). l.recorded) c.in_ok-next.ensures.after.grown ∙ so.run.recorded in
     let net : c.net.result.now ≡ r.opening.net =
     c.net.ensures.net ∙ c.net.ensures.kept.net
     ∙ ap (λ (x : RecordedOpening). x.opening.net) kept in
@@ -41,7 +39,8 @@ loop-command-preserved c =
           (told_more r commands i c.loop-command.k c.loop-command.core next
           c.loop-command.texts.items command c.in_ok-next.answer c.make.result
           c.loop-command-test.true (get_or_default commands i Pull command c.loop-command-test.true)
-          c.loop-command.invariant.1 c.in_ok-next.ensures.log c.in_ok-next.ensures.answer text so),
+          c.loop-command.invariant.1 c.in_ok-next.ensures.after c.in_ok-next.ensures.answer text
+          so),
       omega (arith, c.loop-command.invariant.1),
     )
 
@@ -51,15 +50,13 @@ returns c =
     let commands = c.items-command-items.result.now in
     let core = c.loop-command.core in
     let so = c.loop-command.invariant.0 in
-    let kept = run_recorded r commands c.loop-command.command-index core so.given so.run in
     let net : c.net-2.result.now ≡ r.opening.net =
     c.net-2.ensures.net ∙ c.net-2.ensures.kept.net
-    ∙ ap (λ (x : RecordedOpening). x.opening.net) kept in
+    ∙ ap (λ (x : RecordedOpening). x.opening.net) so.run.recorded in
     let traced =
     c.make-2.ensures ∙ c.in_ok-trace.ensures
     ∙ ap (trace_text c.net-2.result.now) c.history.ensures.same in
     subst (λ s. IsRunOf r s (record { trace = c.make-2.result; texts = c.make-3.result }))
     c.items-command-items.ensures.same
     (told_done r commands c.loop-command.command-index core c.loop-command.texts.items
-    c.net-2.result.now _ c.loop-command-test.false so net c.history.ensures.run traced
-    c.make-3.ensures)
+    c.net-2.result.now _ c.loop-command-test.false so net traced c.make-3.ensures)

@@ -1,18 +1,20 @@
--- A script that is run from an opening has one list of answers.
-use Rattle.std.proofs.Common.{◌≡◌, ℕ, ◌+◌, List, [], ◌∷◌, All, refl, sym, ap, ◌∙◌}
+-- Along one history a script has one list of answers.
+use Rattle.std.proofs.Common.{◌≡◌, List, [], ◌∷◌, All, refl, sym, ap, ◌∙◌}
+use Rattle.cn_change.specs.declared.command.Command.{Command}
+use Rattle.cn_change.specs.declared.command.Command.TheVariants as command
 use Rattle.cn_net.specs.Network.{IsDevice}
 use Rattle.cn_record.specs.Recorded.{RecordedOpening}
 use Rattle.cn_core.specs.declared.answer.Answer.{Answer}
 use Rattle.cn_core.specs.declared.answer.Answer.TheVariants.{Done, Pulled}
+use Rattle.cn_core.specs.declared.event.Step.{Step}
 use Rattle.cn_core.specs.declared.pull.DeviceTable.{DeviceTable}
 use Rattle.cn_core.specs.declared.pull.Pull.{Pull}
 use Rattle.cn_core.specs.declared.pull.Pull.TheVariants.{Quiet, Again}
 use Rattle.cn_core.specs.Log.{Log}
+use Rattle.cn_core.specs.Play.{AreAnswersFrom, IsAnswer, behind_mark, through_mark, with_steps}
+use Rattle.cn_core.specs.PlayLaws.{OneAnswerLaw}
 use Rattle.cn_core.specs.Pulled.{IsPulled, IsQuietAnswer}
-use Rattle.cn_change.specs.declared.command.Command.{Command}
-use Rattle.cn_change.specs.declared.command.Command.TheVariants as command
-use Rattle.cn_serial.specs.Serial.{AreAnswers, AreAnswersFrom, IsAnswer, at_mark}
-use Rattle.cn_serial.proofs.OneTable.{one_list}
+use Rattle.cn_core.proofs.OneTable.{one_list}
 
 -- the emulated devices are devices of the network
 abbrev pub EmulatesItsOwn : RecordedOpening → Type 0
@@ -42,20 +44,20 @@ answer_once l (command.Work n) Done (Pulled y) own h k = absurd k
 answer_once l (command.Work n) (Pulled x) b own h k = absurd h
 
 -- by the script: each command has one answer
-answers_from : (l : Log) (k : ℕ) (cs : List Command) (a b : List Answer)
-    → EmulatesItsOwn l.recorded → AreAnswersFrom l k cs a → AreAnswersFrom l k cs b → a ≡ b
-answers_from l k [] [] [] own h g = refl
-answers_from l k [] [] (y ∷ b) own h g = absurd g
-answers_from l k [] (x ∷ a) b own h g = absurd h
-answers_from l k (c ∷ cs) [] b own h g = absurd h
-answers_from l k (c ∷ cs) (x ∷ a) [] own h g = absurd g
-answers_from l k (c ∷ cs) (x ∷ a) (y ∷ b) own h g =
-    let one = answer_once (at_mark l k c) c x y own h.0 g.0 in
-    let more = answers_from (at_mark l k c) (k + 1) cs a b own h.1 g.1 in
+answers_from : (l : Log) (cs : List Command) (steps : List Step) (a b : List Answer)
+    → EmulatesItsOwn l.recorded → AreAnswersFrom l cs steps a → AreAnswersFrom l cs steps b → a ≡ b
+answers_from l [] steps [] [] own h g = refl
+answers_from l [] steps [] (y ∷ b) own h g = absurd g
+answers_from l [] steps (x ∷ a) b own h g = absurd h
+answers_from l (c ∷ cs) steps [] b own h g = absurd h
+answers_from l (c ∷ cs) steps (x ∷ a) [] own h g = absurd g
+answers_from l (c ∷ cs) steps (x ∷ a) (y ∷ b) own h g =
+    let m = with_steps l (through_mark steps) in
+    let one = answer_once m c x y own h.0 g.0 in
+    let more = answers_from m cs (behind_mark steps) a b own h.1 g.1 in
     λ i. one i ∷ more i
 
--- the answers to a script are one
-pub answers_once : (r : RecordedOpening) (commands : List Command) (a b : List Answer)
-    → EmulatesItsOwn r → AreAnswers r commands a → AreAnswers r commands b → a ≡ b
-answers_once r commands a b own h k =
-    answers_from (record { recorded = r; history = [] }) 1 commands a b own h k
+-- the answers to a script along one history are one
+pub answers_once : OneAnswerLaw
+answers_once r script h answers others own is so =
+    answers_from (record { recorded = r; history = [] }) script h answers others own is so
