@@ -1,6 +1,7 @@
 -- Rounds: what comes next in one, that there is one list of them, and that they are a run.
 use Rattle.std.proofs.Common.{◌≡◌, ◌+◌, ◌<◌, ℕ, Bool, true, false, List, [], ◌∷◌, ◌++◌, length, Option, Some, None, refl, sym, ap, ◌∙◌, subst, inr, arith, true≢false}
 use Rattle.std.specs.Prelude.{◌&&◌, ◌||◌, All, IsTrue, is_some, nat_lt, option_map}
+use Rattle.std.specs.FinMap as fin
 use Rattle.std.specs.List.{find}
 use Rattle.std.proofs.lemmas.Bool.Decides.{nat_tests}
 use Rattle.std.proofs.lemmas.List.Elements.{All-weaker}
@@ -18,12 +19,14 @@ use Rattle.cn_core.specs.Laws.{IsKept}
 use Rattle.cn_core.specs.Machine.{IsRunFrom, can, state}
 use Rattle.cn_core.specs.Order.{IsQuiet, first_pending, has_mail, is_pending, owes_from, receive_over, send_over}
 use Rattle.cn_core.specs.Play.{AreWork, after}
-use Rattle.cn_core.specs.State.{CoreState, owed_by, rib, session}
+use Rattle.cn_core.specs.Owed.{owed_by, owes}
+use Rattle.cn_core.specs.State.{CoreState, rib, session}
 use Rattle.cn_core.proofs.Kept.{kept_run, run_holds}
+use Rattle.cn_core.proofs.Owes.{owes-empty}
 use Rattle.cn_core.proofs.Play.{after_append, run_append}
 use Rattle.cn_core.proofs.Searches.{IsApart, apart, found_apart, found_one, found_passes, none_passes, nothing_found, session_found}
 use Rattle.cn_core.proofs.Stands.{quiet_stands, stands_quiet}
-use Rattle.cn_serial.specs.Rounds.{AreRounds, FollowsOut, IsQuietWork, IsRound, Round, RoundLaw, decision_of, exchange_of, has_dirty, next_decision, next_exchange, owes, steps_of, steps_of_all}
+use Rattle.cn_serial.specs.Rounds.{AreRounds, FollowsOut, IsQuietWork, IsRound, Round, RoundLaw, decision_of, exchange_of, has_dirty, next_decision, next_exchange, steps_of, steps_of_all}
 use Rattle.cn_serial.proofs.SerialPlay.{follows_run, follows_work, one_of}
 
 -- ---- what comes next is enabled
@@ -44,9 +47,9 @@ send_enabled s x apart none e =
     let empty =
     found_one (λ y. has_mail y ≡ false) (owes s) s.sessions x
     (none_passes has_mail s.sessions none) e in
-    ap (λ o. is_some o && (is_some (owed_by s (session s x.from x.to))
+    ap (λ o. is_some o && (owes s (session s x.from x.to)
     && nat_lt (length (session s x.from x.to).mail) 64)) (found_apart (owes s) s.sessions x apart e)
-    ∙ ap (λ (y : Session). is_some (owed_by s y) && nat_lt (length y.mail) 64) at
+    ∙ ap (λ (y : Session). owes s y && nat_lt (length y.mail) 64) at
     ∙ ap (λ b. b && nat_lt (length x.mail) 64) (found_passes (owes s) s.sessions x e)
     ∙ room_without_mail (length x.mail) empty
 
@@ -134,7 +137,7 @@ none_next s q =
     let mail = (quiet_stands s q).0 in
     let paid =
     nothing_found (owes s) s.sessions
-    (All-weaker (λ x. owed_by s x ≡ None) (λ x. owes s x ≡ false) (λ x h. ap is_some h) s.sessions
+    (All-weaker (λ x. owed_by s x ≡ fin.empty) (λ x. owes s x ≡ false) (owes-empty s) s.sessions
     q.owed) in
     let clean = nothing_found (has_dirty s) (device_ids s.net) (λ i x lt. clean_at _) in
     ((λ i. exchange_of (mail i) (paid i)), ap (decision_of s) clean)

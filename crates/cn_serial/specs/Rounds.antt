@@ -12,14 +12,11 @@ use Rattle.cn_core.specs.declared.session.Session.{Session}
 use Rattle.cn_core.specs.Machine.{IsRun, IsRunFrom, state}
 use Rattle.cn_core.specs.Order.{IsQuiet, has_mail, receive_over, send_over}
 use Rattle.cn_core.specs.Play.{AreWork, after}
-use Rattle.cn_core.specs.State.{CoreState, owed_by, rib}
+use Rattle.cn_core.specs.Owed.{owes}
+use Rattle.cn_core.specs.State.{CoreState, rib}
 use Rattle.cn_serial.specs.Serial.{Follows}
 
 -- ---- what comes next
-
--- the session owes a message
-abbrev pub owes : CoreState → Session → Bool
-owes s x = is_some (owed_by s x)
 
 abbrev pub exchange_of : Option Session → Option Session → Option Event
 exchange_of (Some x) y = Some (receive_over x)
