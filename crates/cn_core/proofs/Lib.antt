@@ -28,3 +28,5 @@ pub mod Finds
 pub mod Play
 pub mod OneAnswer
 mod OneTable
+pub mod PullThere
+pub mod AnswersThere

@@ -22,7 +22,8 @@ split_whole [] k e = cc
 split_whole (Work x ∷ h) k e = ap (λ xs. Work x ∷ xs) (split_whole h k e)
 split_whole (Mark j ∷ h) k e = let same : j ≡ k = cc in ap (λ i. Mark i ∷ h) same
 
-through_whole : (h : List Step) (k : ℕ) → first_mark h ≡ Some k
+-- a history with a mark is what stands through the mark and what stands behind it
+pub through_whole : (h : List Step) (k : ℕ) → first_mark h ≡ Some k
     → through_mark h ++ behind_mark h ≡ h
 through_whole [] k e = cc
 through_whole (Work x ∷ h) k e = ap (λ xs. Work x ∷ xs) (through_whole h k e)

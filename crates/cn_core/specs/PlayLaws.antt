@@ -2,11 +2,11 @@
 use Rattle.std.specs.Prelude.{◌≡◌, ℕ, ◌+◌, ◌++◌, ◌∷◌, [], All, List, length, Some}
 use Rattle.cn_change.specs.declared.command.Command.{Command}
 use Rattle.cn_net.specs.Network.{IsDevice}
-use Rattle.cn_record.specs.Recorded.{RecordedOpening}
+use Rattle.cn_record.specs.Recorded.{IsRecorded, RecordedOpening}
 use Rattle.cn_core.specs.declared.answer.Answer.{Answer}
 use Rattle.cn_core.specs.declared.event.Step.{Step}
 use Rattle.cn_core.specs.declared.event.Step.TheVariants.{Work, Mark}
-use Rattle.cn_core.specs.Play.{AreAnswers, IsPart, IsPlayFrom, after, before_mark, behind_mark, first_mark}
+use Rattle.cn_core.specs.Play.{AreAnswers, IsPart, IsPlay, IsPlayFrom, after, before_mark, behind_mark, first_mark}
 use Rattle.cn_core.specs.State.{CoreState}
 
 -- the numbers of the marks
@@ -34,6 +34,12 @@ pub record SplitLaw : Type 0 where
       → IsPlayFrom s k (cs ++ c ∷ []) (h ++ (part ++ Mark (k + length cs) ∷ []))
   pub marks : (s : CoreState) (k : ℕ) (cs : List Command) (h : List Step) → IsPlayFrom s k cs h
       → marks_of h ≡ numbers_from k cs
+
+-- along a play from a recorded opening a script has answers
+abbrev pub SomeAnswersLaw : Type 0
+SomeAnswersLaw =
+    (r : RecordedOpening) (script : List Command) (h : List Step) → IsRecorded r
+    → IsPlay r script h → (answers : List Answer) × AreAnswers r script h answers
 
 -- Where the emulated devices are devices of the network, as those of every recorded opening are, a
 -- script has at most one list of answers along a history.

@@ -1,6 +1,6 @@
 -- A text opens or has a fault: that neither is there is refuted. The layer above may cite this
 -- module.
-use Rattle.std.proofs.Common.{◌≡◌, ℕ, ◌⊎◌, inl, inr, List, length, Option, None, Some, Result, Ok, Err, refl, sym, subst, ◌∙◌, arith}
+use Rattle.std.proofs.Common.{◌≡◌, ℕ, ◌⊎◌, inl, inr, List, length, None, Some, Ok, Err, refl, sym, subst, ◌∙◌, arith}
 use Rattle.std.specs.Prelude.{find}
 use Rattle.std.specs.List.{flat_map}
 use Rattle.std.proofs.lemmas.Bool.{cases_lt}
@@ -20,7 +20,6 @@ use Rattle.cn_readnet.specs.Plan.{plan_of}
 use Rattle.cn_readnet.specs.declared.plan.NetText.{NetText}
 use Rattle.cn_record.specs.Recorded.{RecordedOpening}
 use Rattle.cn_record.proofs.Repeating.{saved_or_repeat}
-use Rattle.cn_text.specs.declared.answer.TextAnswer.{TextAnswer}
 use Rattle.cn_open.specs.Depth.{named, sound}
 use Rattle.cn_open.specs.Emulation.{ReadsNone, ReadsPlan, plan_limit}
 use Rattle.cn_open.specs.Faults.{IsPlanFault, first_unknown, plan_names, row_names, selection_names}
@@ -40,26 +39,18 @@ use Rattle.cn_open.proofs.Openings.{named_answered, named_opens}
 
 -- ---- the plan is read
 
-computed : (r : Result NetText TextAnswer) → ((text : NetText) × (r ≡ Ok text))
-    ⊎ ((text : NetText) → r ≡ Ok text → ⊥)
-computed (Ok text) = inl (text, refl)
-computed (Err e) = inr (λ text is. absurd cc)
-
 text_there : (bytes : List ℕ) → ((text : NetText) × ReadsPlan bytes text) ⊎ ReadsNone bytes
 text_there bytes =
     elim (cases_lt plan_limit (length bytes)) [
       | inl long ↦ inr (λ text (short, is). absurd (omega (arith, long, short)))
-      | inr short ↦ elim (computed (plan_of bytes)) [
-        | inl (text, is) ↦ inl (text, (short, is))
-        | inr none ↦ inr (λ text (short, is). none text is)
-      ]
+      | inr short ↦ elim (plan_of bytes) as
+          (λ r. plan_of bytes ≡ r → ((text : NetText) × ReadsPlan bytes text) ⊎ ReadsNone bytes) [
+            | Ok text ↦ λ is. inl (text, (short, is))
+            | Err e ↦ λ is. inr (λ text (short, other). absurd cc)
+          ] refl
     ]
 
 -- ---- its names are known
-
-looked : {X : Type 0} (o : Option X) → ((x : X) × (o ≡ Some x)) ⊎ (o ≡ None)
-looked None = inr refl
-looked (Some x) = inl (x, refl)
 
 -- what a plan names, whose network is made
 module _ (bytes : List ℕ) (text : NetText) (reads : ReadsPlan bytes text) where
@@ -103,15 +94,17 @@ module _ (bytes : List ℕ) (text : NetText) (reads : ReadsPlan bytes text) wher
 
   names_there : NamedOrFault
   names_there =
-      elim (looked (fault_of text.draft)) [
-        | inl (f, is) ↦ inr (fault.Net f, is)
-        | inr none ↦ elim (looked (first_unknown text.draft (plan_names text))) [
-          | inl (name, is) ↦ inr (fault.Unknown name, (none, is))
-          | inr known ↦
-              let (net, valid, drafted) = stands_for text.draft none in
-              rows_named none net valid drafted known
-        ]
-      ]
+      elim (fault_of text.draft) as (λ o. fault_of text.draft ≡ o → NamedOrFault) [
+        | Some f ↦ λ is. inr (fault.Net f, is)
+        | None ↦
+            λ none.
+            let (net, valid, drafted) = stands_for text.draft none in
+            let first = first_unknown text.draft (plan_names text) in
+            elim first as (λ o. first ≡ o → NamedOrFault) [
+              | Some name ↦ λ is. inr (fault.Unknown name, (none, is))
+              | None ↦ λ known. rows_named none net valid drafted known
+            ] refl
+      ] refl
 
 -- a text names a network, devices and rows, or has a fault on the way there
 pub named_there : (bytes : List ℕ)

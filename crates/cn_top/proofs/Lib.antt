@@ -4,6 +4,7 @@ pub mod KeptDevices
 pub mod Endings
 pub mod Readings
 pub mod Intents
+pub mod MeaningThere
 pub mod OneMeaning
 pub mod EndingKinds
 pub mod Outcomes

@@ -1,15 +1,16 @@
 -- What is meant by the words, and by what the named files hold.
-use Rattle.std.specs.Prelude.{◌≡◌, ◌⊎◌, ℕ, zero, suc, List, Some}
+use Rattle.std.specs.Prelude.{◌≡◌, ◌<◌, ◌⊎◌, ℕ, zero, suc, List, length, Some}
+use Rattle.cn_lists.specs.Classical.{Classically}
 use Rattle.cn_change.specs.declared.command.Command.{Command}
 use Rattle.cn_net.specs.Opening.{Opening}
 use Rattle.cn_open.specs.Depth.{sound}
 use Rattle.cn_open.specs.OpenFaults.{IsOpenFault}
 use Rattle.cn_open.specs.Opens.{IsSafePlan, Opens}
 use Rattle.cn_open.specs.declared.fault.OpenFault.{OpenFault}
-use Rattle.cn_outside.specs.Shelf.{Held, IsTold, MayHold}
+use Rattle.cn_outside.specs.Shelf.{Held, IsTold, MayHold, absent}
 use Rattle.cn_record.specs.Recorded.{RecordedOpening}
 use Rattle.cn_top.specs.Deed.{Deed}
-use Rattle.cn_top.specs.Form.{Among, Form, plan_form, serial_form, later_form, usage_form}
+use Rattle.cn_top.specs.Form.{Among, Form, plan_form, serial_form, later_form, usage_form, read_at, reads_of}
 use Rattle.cn_top.specs.Serial.{ReadsNoScript, IsRunOf, ReadsScript}
 use Rattle.cn_top.specs.Texts.{plan_text}
 use Rattle.cn_top.specs.Wrong.{line}
@@ -127,9 +128,28 @@ IsValidInput usage_form held = ⊥
 abbrev pub TellsAll : List (List ℕ) → (List ℕ → Held) → Type 0
 TellsAll names held = (n : List ℕ) → Among names n → IsTold (held n)
 
--- at most one of right and wrong, and one value of it
+-- the file behind k others, with which nothing is wrong, isn't there
+pub record IsMissing (form : Form) (held : List ℕ → Held) (k : ℕ) : Type 0 where
+  pub place : k < length (reads_of form)
+  pub good : GoesOn form k held
+  pub nothing : held (read_at form k) ≡ absent
+
+-- What a call means: something is right, or something is wrong; or a file that is to be read isn't
+-- there, or the words are no listed form.
+pub data Meaning (form : Form) (held : List ℕ → Held) : Type 0 where
+  means_right : (deed : Deed) → IsRight form held deed → Meaning form held
+  means_wrong : (w : Wrong) → IsWrong form held w → Meaning form held
+  means_missing : (k : ℕ) → IsMissing form held k → Meaning form held
+  means_usage : form ≡ usage_form → Meaning form held
+
+-- Exactly one meaning: none is beside another, each is one value, and that none is there is
+-- refuted.
 pub record OneMeaning (form : Form) (held : List ℕ → Held) : Type 0 where
+  pub there : Classically (Meaning form held)
   pub right_once : (d e : Deed) → IsRight form held d → IsRight form held e → d ≡ e
   pub wrong_once : (v w : Wrong) → IsWrong form held v → IsWrong form held w → v ≡ w
+  pub missing_once : (j k : ℕ) → IsMissing form held j → IsMissing form held k → j ≡ k
   pub not_both : (d : Deed) (w : Wrong) → IsRight form held d → IsWrong form held w → ⊥
+  pub missing_not_right : (k : ℕ) (d : Deed) → IsMissing form held k → IsRight form held d → ⊥
+  pub missing_not_wrong : (k : ℕ) (w : Wrong) → IsMissing form held k → IsWrong form held w → ⊥
   pub valid_not_wrong : (w : Wrong) → IsValidInput form held → IsWrong form held w → ⊥

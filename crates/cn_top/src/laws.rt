@@ -8,8 +8,9 @@ ghost use Rattle.cn_top.specs.Deed.{Deed};
 ghost use Rattle.cn_top.specs.Form.{Form, reads_of};
 ghost use Rattle.cn_top.specs.Meaning.{IsRight, IsValidInput, OneMeaning, TellsAll};
 
-/// Where the shelf tells what each named file holds, at most one of right and wrong is there, and
-/// of each one value: so a call has one meaning.
+/// Where the shelf tells what each named file holds, a call has exactly one meaning: a deed that is
+/// right, what is first wrong, a file that isn't there, or words that are no listed form. That one
+/// is there is said in the sense of classical logic: that none is there is refuted.
 pub fn one_meaning()
     ensures { (form : Form) (held : List ℕ → Held)
         → TellsAll (reads_of form) held → OneMeaning form held }
