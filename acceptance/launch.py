@@ -6,13 +6,17 @@ only play theirs. Ends with status 1 and what was wrong where something was.
 """
 import os
 import pathlib
+import pty
+import re
 import shutil
 import subprocess
 import sys
 import tempfile
 
 ROOT = pathlib.Path(__file__).resolve().parent.parent
-TOOLS = "bash cat chmod dirname env find mktemp readlink rm sh sleep touch".split()
+TOOLS = "awk bash cat chmod date dirname env find mktemp readlink rm sed sh tail touch tr".split()
+TOLD = {"crystal: 1 of 3 crates, 0 min", "crystal: 2 of 3 crates, 0 min"}
+COMMANDS = "plan serial replay save make sample live".split()
 STATUSES = [1, 2, 3, 4, 5, 7, 9]
 
 # A program that prints its words and ends with the status that its first word names, if it does.
@@ -30,6 +34,13 @@ RT = """#!/bin/sh
 echo call >>"$HOME/calls"
 echo "usage: a line that must not be seen"
 [ -e "$HOME/fails" ] && exit 1
+if [ -e "$HOME/slow" ]; then
+  for name in cn_a cn_b; do
+    echo "fn $name::first: proved" >&2
+    echo "crate $name: modules loaded=1 checked=1"
+    sleep 0.5
+  done
+fi
 mkdir -p out
 cp "$HOME/program" out/crystal
 sleep 0.1
@@ -37,6 +48,12 @@ sleep 0.1
 sleep 0.1
 touch out/crystal
 exit 0
+"""
+
+# A sleep to which a second and a minute are a tenth of a second.
+SLEEP = """#!/bin/sh
+case $1 in 1 | 60) exec {0} 0.1 ;; esac
+exec {0} "$1"
 """
 
 
@@ -52,11 +69,14 @@ class House:
             folder.mkdir(parents=True)
         for name in ("crystal", "build", "syntax.py"):
             shutil.copy(ROOT / name, self.root)
-        (self.root / "crates.txt").write_text("crystal:\n")
+        shutil.copytree(ROOT / "docs/man", self.root / "docs/man")
+        crates = "# A comment.\ncn_c:\ncn_a:\ncrystal: cn_b toml\ncn_b: cn_a\n"
+        (self.root / "crates.txt").write_text(crates)
         (self.crate / "src/main.rt").write_text("source\n")
         for name in [*TOOLS, "mkdir", "cp"]:
             (self.tools / name).symlink_to(shutil.which(name))
         self.write(self.home / "program", PROGRAM)
+        self.write(self.tools / "sleep", SLEEP.format(shutil.which("sleep")))
 
     def write(self, path, text):
         path.parent.mkdir(parents=True, exist_ok=True)
@@ -84,18 +104,30 @@ class House:
         path = self.home / "calls"
         return len(path.read_text().splitlines()) if path.exists() else 0
 
-    def run(self, *words, **played):
+    def run(self, *words, stderr=subprocess.PIPE, **played):
         surroundings = {"PATH": str(self.tools), "HOME": str(self.home), **played}
         ended = subprocess.run(
             [self.root / "crystal", *words],
             cwd=self.home,
             env=surroundings,
             stdin=subprocess.DEVNULL,
-            capture_output=True,
+            stdout=subprocess.PIPE,
+            stderr=stderr,
             text=True,
             timeout=60,
         )
         return ended.returncode, ended.stdout, ended.stderr
+
+    def run_at_terminal(self, *words):
+        """A run whose standard error is a terminal, and what stands there in the end."""
+        ours, theirs = pty.openpty()
+        try:
+            status, stdout, _ = self.run(*words, stderr=theirs)
+            # The line ends of a terminal are CR LF.
+            return status, stdout, os.read(ours, 1 << 16).decode().replace("\r\n", "\n")
+        finally:
+            os.close(ours)
+            os.close(theirs)
 
     def prints(self, *words):
         return f"{self.crate}/out/crystal {' '.join(words)}\nno line end"
@@ -200,6 +232,69 @@ def without_python_no_place_is_said(house):
     wants(places(house, "plan", "wrong.toml"), [], "no python3")
 
 
+def a_build_that_fails_shows_what_rt_said(house):
+    """The last that rt said is on standard error, and all of it is kept."""
+    house.with_rt()
+    (house.home / "fails").touch()
+    status, stdout, stderr = house.run("plan", "q.toml")
+    kept = (house.crate / "out/build.log").read_text()
+    wants((status, stdout), (125, ""), "a build that fails")
+    wants(kept, "usage: a line that must not be seen\n", "what is kept")
+    wants(kept in stderr and "build.log" in stderr, True, "rt's words on standard error")
+
+
+def the_build_tells_how_far_it_is(house):
+    """Where standard error is no terminal, a line a minute, of the crates below the program."""
+    house.with_rt()
+    (house.home / "slow").touch()
+    status, stdout, stderr = house.run("plan", "q.toml")
+    wants((status, stdout), (0, house.prints("plan", "q.toml")), "status and output")
+    first, *lines = stderr.splitlines()
+    wants(first.startswith("crystal: proving"), True, "the first line")
+    odd = [it for it in lines if not re.fullmatch(r"crystal: [012] of 3 crates, 0 min", it)]
+    wants((odd, lines == sorted(lines)), ([], True), "lines of progress")
+    wants(sorted(TOLD - {*lines}), [], "counts that are missing")
+
+
+def a_terminal_shows_it_in_one_place(house):
+    """Where standard error is a terminal, the line is written over, and gone in the end."""
+    house.with_rt()
+    (house.home / "slow").touch()
+    status, stdout, stderr = house.run_at_terminal("plan", "q.toml")
+    wants((status, stdout), (0, house.prints("plan", "q.toml")), "status and output")
+    first, *drawn = stderr.split("\r\x1b[K")
+    wants((first.count("\n"), "\n" in "".join(drawn)), (1, False), "line ends")
+    wants(sorted(TOLD - {*drawn}), [], "counts that are missing")
+    wants(drawn[-1], "", "what stands there in the end")
+
+
+def help_and_version_build_nothing(house):
+    """Pages and the version come without a program and without rt, also where there is no man."""
+    for words in [["--help"], ["help"], *(["help", name] for name in COMMANDS)]:
+        status, stdout, stderr = house.run(*words)
+        name = "-".join(["CRYSTAL", *words[1:]]).upper()
+        wants((status, stdout.splitlines()[0]), (0, name), f"the page of {words}")
+        wants("man-db" in stderr, True, "what is missing")
+        wants([it for it in stdout.splitlines() if it.startswith(".")], [], "macros in the text")
+    house.write(house.tools / "man", "#!/bin/sh\nprintf '%s ' \"$@\"\n")
+    page = f"-l {house.root}/docs/man/crystal-plan.1 "
+    wants(house.run("help", "plan"), (0, page, ""), "a page by man")
+    status, stdout, stderr = house.run("--version")
+    wants((status, stderr), (0, ""), "the version")
+    wants(stdout.splitlines()[0].startswith("crystal"), True, "the first line")
+    wants(stdout.splitlines()[-1], "program: not built here yet", "the last line")
+    house.with_program()
+    wants("program: built 2" in house.run("--version")[1], True, "a program that is there")
+
+
+def other_words_are_the_programs(house):
+    """Words that only look like help go to the program."""
+    house.with_program()
+    for words in (["help", "walk"], ["help", "../man/crystal"], ["--help", "plan"], ["-h"], []):
+        wants(house.run(*words)[:2], (0, house.prints(*words)), f"the words {words}")
+    wants(house.run("--version", "")[:2], (0, house.prints("--version", "")), "an empty word")
+
+
 def main():
     trials = [
         nothing_can_be_built,
@@ -210,6 +305,11 @@ def main():
         each_status_is_said,
         a_syntax_error_has_a_place,
         without_python_no_place_is_said,
+        a_build_that_fails_shows_what_rt_said,
+        the_build_tells_how_far_it_is,
+        a_terminal_shows_it_in_one_place,
+        help_and_version_build_nothing,
+        other_words_are_the_programs,
     ]
     failed = False
     for trial in trials:

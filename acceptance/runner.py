@@ -5,9 +5,9 @@
 
 It compares standard output, the status and the files that are left; standard error must be empty.
 Some cases more are programs: boundary.py runs a part of a fabric and the whole of it, fixpoint.py
-computes the tables that the cases expect, and launch.py tries the scripts that build and run the
-program. Where SCRIPT, the script `crystal`, is named too, it must answer as the program does. Ends
-with 'N passed, M failed', and with status 1 where a case failed.
+computes the tables that the cases expect, launch.py tries the scripts that build and run the
+program, and tools.py those of tools/. Where SCRIPT, the script `crystal`, is named too, it must
+answer as the program does. Ends with 'N passed, M failed', and with status 1 where a case failed.
 """
 import difflib
 import pathlib
@@ -109,6 +109,7 @@ def judge_program(name, *words):
     words = [sys.executable, "-B", tables.HERE / name, *words]
     status, stdout, stderr = run(words, ROOT)
     if status == 0:
+        sys.stdout.write(stdout.decode(errors="replace"))  # what it skipped
         return []
     return [f"status {status}", *(stdout + stderr).decode(errors="replace").splitlines()]
 
@@ -161,6 +162,7 @@ def main(program, script=None):
     judged.append(("fixpoint.py", judge_tables(cases)))
     judged.append(("boundary.py", judge_program("boundary.py", program)))
     judged.append(("launch.py", judge_program("launch.py")))
+    judged.append(("tools.py", judge_program("tools.py")))
     if script:
         judged.append(("the script crystal", judge_script(script, cases)))
     for name, told in judged:

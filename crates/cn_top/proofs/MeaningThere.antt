@@ -1,5 +1,5 @@
 -- Where something is told of each name, a call has a meaning: that it has none is refuted.
-use Rattle.std.proofs.Common.{◌≡◌, ℕ, ◌<◌, ◌≤◌, ◌⊎◌, inl, inr, List, length, Result, Ok, Err, refl, arith}
+use Rattle.std.proofs.Common.{◌≡◌, ℕ, ◌⊎◌, inl, inr, List, length, Ok, Err, refl, arith}
 use Rattle.std.proofs.lemmas.Bool.{cases_lt}
 use Rattle.cn_lists.specs.Classical.{Classically}
 use Rattle.cn_lists.proofs.Classical.{given, with_found}
@@ -11,7 +11,6 @@ use Rattle.cn_outside.specs.Shelf.{Held, IsTold, MayHold, absent, holds, untold}
 use Rattle.cn_readscript.specs.Script.{script_of}
 use Rattle.cn_record.specs.Recorded.{IsRecorded, RecordedOpening}
 use Rattle.cn_serial.proofs.SerialPlay.{serial_play, serial_there}
-use Rattle.cn_text.specs.declared.answer.TextAnswer.{TextAnswer}
 use Rattle.cn_trace.specs.Trace.{trace_text}
 use Rattle.cn_top.specs.Form.{Form, later_form, plan_form, reads_of, serial_form, usage_form}
 use Rattle.cn_top.specs.Meaning.{HoldsFault, HoldsNoScript, HoldsOpening, HoldsScript, Meaning, TellsAll, means_missing, means_right, means_usage, means_wrong, plan_deed, run_deed}
