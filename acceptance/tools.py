@@ -69,6 +69,21 @@ def a_refusal_is_marked():
         wants([it for it in words if it not in "".join(lines)], [], "words not in the caption")
 
 
+def the_program_is_asked():
+    """Without an answer, the script `crystal` beside the tools is asked for it."""
+    with tempfile.TemporaryDirectory() as spot:
+        (pathlib.Path(spot) / "tools").mkdir()
+        draw = shutil.copy(ROOT / "tools/draw", pathlib.Path(spot, "tools"))
+        played = pathlib.Path(spot, "crystal")
+        answer = EXAMPLES / "q-recorded.stdout"
+        played.write_text(f'#!/bin/sh\n[ "$*" = "plan q.toml" ] && cat "{answer}"\n')
+        played.chmod(0o755)
+        shutil.copy(EXAMPLES / "q-recorded.toml", pathlib.Path(spot, "q.toml"))
+        words = [sys.executable, "-B", draw, "--dot", "q.toml"]
+        ended = subprocess.run(words, cwd=spot, capture_output=True, text=True)
+    wants((ended.returncode, ended.stdout.splitlines()), (0, drawn("q-recorded")), "the picture")
+
+
 def what_is_no_boundary_is_not_drawn():
     for answer in ("bad net: name t1 twice\n", "certified emulated 2 islands 0\nemulate t1\n"):
         wants(drawn("q-emulated", answer)[0].startswith("draw: "), True, answer)
@@ -145,6 +160,7 @@ def main():
     for trial in (
         islands_speakers_and_facing_links_are_drawn,
         a_refusal_is_marked,
+        the_program_is_asked,
         what_is_no_boundary_is_not_drawn,
         graphviz_draws_it,
         changes_of_tables_are_told,
