@@ -1,21 +1,23 @@
 -- What a change of one session or of what one device holds does to each.
-use Rattle.std.proofs.Common.{◌≡◌, ◌≢◌, ◌<◌, ◌≤◌, Bool, true, false, cond, List, [], ◌∷◌, length, get_or, set, Option, Some, None, refl, sym, ap, ◌∙◌, subst, inl, inr, true≢false}
+use Rattle.std.proofs.Common.{◌≡◌, ◌≢◌, ◌<◌, ◌≤◌, Bool, true, false, cond, List, [], ◌∷◌, length, get_or, map, set, Option, Some, None, refl, sym, ap, ◌∙◌, subst, inl, inr, true≢false}
 use Rattle.std.specs.Prelude.{◌&&◌, ◌⊎◌, All, is_some, option_map, unwrap_or}
-use Rattle.std.specs.List.{find}
+use Rattle.std.specs.List.{Contains, find}
 use Rattle.std.specs.FinMap as fin
 use Rattle.std.proofs.lemmas.Bool.{cases_lt}
 use Rattle.std.proofs.lemmas.Bool.Decides.{eqb_tells}
 use Rattle.std.proofs.lemmas.List.{length-set, get_or-set_same, get_or-set_other, get_or_past}
-use Rattle.std.proofs.lemmas.List.Elements.{All-cons, All-head, All-tail}
+use Rattle.std.proofs.lemmas.List.Elements.{All-cons, All-head, All-nil, All-tail}
 use Rattle.cn_base.specs.Cidr.{Cidr}
 use Rattle.cn_base.specs.declared.ids.DeviceId.{DeviceId}
 use Rattle.cn_base.specs.declared.route.Route.{Route}
+use Rattle.cn_lists.proofs.Finding.{Contains-from_is_some_find, Contains-from_map, Contains-map, is_some-find}
 use Rattle.cn_net.specs.Network.{same_device}
+use Rattle.cn_net.specs.declared.sessions.SessionEnds.{SessionEnds}
 use Rattle.cn_net.proofs.Keys.{same_device-Decides}
 use Rattle.cn_core.specs.declared.session.Rib.{Rib}
 use Rattle.cn_core.specs.declared.session.Session.{Session}
-use Rattle.cn_core.specs.Laws.{ends_of}
 use Rattle.cn_core.specs.Machine.{at_first, came_at, route_with, with_rib, with_session}
+use Rattle.cn_core.specs.Start.{ends, ends_of}
 use Rattle.cn_core.specs.State.{CoreState, empty_rib, empty_session, is_session, rib, session}
 
 -- ---- options and tests
@@ -61,9 +63,43 @@ pub ends_kept : (t : Session → Bool) (f : Session → Session) → KeepsEnds f
 ends_kept t f k [] = refl
 ends_kept t f k (x ∷ xs) =
     elim (t x) as (λ b. ends_of (cond b (f x ∷ xs) (x ∷ at_first t f xs)) ≡ ends_of (x ∷ xs)) [
-      | true ↦ λ i. (k.from x i, k.to x i) ∷ ends_of xs
-      | false ↦ ap (λ es. (x.from, x.to) ∷ es) (ends_kept t f k xs)
+      | true ↦ λ i. record { from = k.from x i; to = k.to x i } ∷ ends_of xs
+      | false ↦ ap (λ es. ends x ∷ es) (ends_kept t f k xs)
     ]
+
+-- what holds of the ends of a list holds of its sessions
+pub all_by_ends : (P : SessionEnds → Type 0) (xs : List Session) → All P (ends_of xs)
+    → All (λ x. P (ends x)) xs
+all_by_ends P [] h = All-nil (λ (x : Session). P (ends x))
+all_by_ends P (x ∷ xs) h =
+    All-cons (λ (y : Session). P (ends y)) x xs (All-head P (ends x) (ends_of xs) h)
+    (all_by_ends P xs (All-tail P (ends x) (ends_of xs) h))
+
+-- empty sessions with these ends have these ends
+pub ends_of-empty : (es : List SessionEnds) → ends_of (map (λ e. empty_session e.from e.to) es) ≡ es
+ends_of-empty [] = refl
+ends_of-empty (e ∷ es) = ap (λ xs. e ∷ xs) (ends_of-empty es)
+
+-- a session with these ends is found
+pub is_some-session : (a b : DeviceId) (xs : List Session)
+    → Contains (ends_of xs) (record { from = a; to = b })
+    → is_some (find (is_session a b) xs) ≡ true
+is_some-session a b xs h =
+    let it : SessionEnds = record { from = a; to = b } in
+    let at = Contains-from_map ends xs it h in
+    is_some-find (is_session a b) xs at.0 at.1
+    ((λ i. same_device (at.2 i).from a && same_device (at.2 i).to b)
+    ∙ ap (λ t. t && same_device b b) (itself a) ∙ itself b)
+
+-- and the other way
+pub session-from_is_some : (a b : DeviceId) (xs : List Session)
+    → is_some (find (is_session a b) xs) ≡ true
+    → Contains (ends_of xs) (record { from = a; to = b })
+session-from_is_some a b xs h =
+    let it : SessionEnds = record { from = a; to = b } in
+    let at = Contains-from_is_some_find (is_session a b) xs h in
+    let are = ends_are a b at.0 at.2 in
+    Contains-map ends xs at.0 it at.1 (λ i. record { from = are.0 i; to = are.1 i })
 
 -- ---- the session that is found
 

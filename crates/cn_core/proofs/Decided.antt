@@ -1,9 +1,11 @@
 -- The decision that the code makes is the best of the candidates.
-use Rattle.std.proofs.Common.{◌≡◌, true, false, cond, [], Option, Some, None, refl, sym, ap, ◌∙◌, true≢false}
+use Rattle.std.proofs.Common.{◌≡◌, ℕ, ◌+◌, ◌<◌, true, false, cond, List, [], ◌∷◌, drop, get_or, length, map, Option, Some, None, sym, ap, ◌∙◌, add-one}
+use Rattle.std.proofs.Math.Seq.{drop-cons}
 use Rattle.std.specs.Prelude.{option_map, unwrap_or}
 use Rattle.std.specs.Borrow.{Bor}
-use Rattle.std.specs.List.{find, fold}
+use Rattle.std.specs.List.{filter, find, fold}
 use Rattle.std.specs.FinMap as fin
+use Rattle.std.proofs.lemmas.List.Elements.{All-map}
 use Rattle.cn_base.specs.Cidr.{Cidr}
 use Rattle.cn_base.specs.declared.ids.DeviceId.{DeviceId}
 use Rattle.cn_base.specs.declared.ids.Origin.{Origin}
@@ -14,17 +16,21 @@ use Rattle.cn_base.specs.declared.route.Attributes.{Attributes}
 use Rattle.cn_decide.specs.Decide.{better, with_rank}
 use Rattle.cn_decide.specs.declared.Ranked.{Ranked}
 use Rattle.cn_decide.proofs.Steps.{better_by_none, on_item-better}
+use Rattle.cn_lists.proofs.Finding.{None-from_is_some}
 use Rattle.cn_rib.proofs.Keyed.{get_empty}
 use Rattle.cn_net.specs.Candidates.{best_of, choice_from, rank_of, usable}
 use Rattle.cn_net.specs.Exchange.{accept}
-use Rattle.cn_net.specs.Network.{Network, is_linked, own_origin, peers_of}
+use Rattle.cn_net.specs.Network.{Network, IsDevice, device_ids, own_origin}
+use Rattle.cn_net.specs.Sessions.{places_into}
+use Rattle.cn_net.specs.declared.sessions.SessionEnds.{SessionEnds}
 use Rattle.cn_net.proofs.Deciding as deciding
-use Rattle.cn_core.specs.declared.session.Session.{Session}
-use Rattle.cn_core.specs.Learnt.{choice_with, learnt_choice}
+use Rattle.cn_net.proofs.Senders.{sender_at, senders_into}
+use Rattle.cn_core.specs.Learnt.{choice_with, has_session, learnt_choice}
 use Rattle.cn_core.specs.Machine.{came_at, route_with}
+use Rattle.cn_core.specs.Start.{ends, ends_of}
 use Rattle.cn_core.specs.State.{CoreState, empty_session, is_session, session}
 use Rattle.cn_core.specs.Whole.{IsWhole}
-use Rattle.cn_core.proofs.Access.{ends_are, found_has}
+use Rattle.cn_core.proofs.Access.{is_some-session, session-from_is_some}
 
 -- ---- one more route
 
@@ -95,21 +101,40 @@ module _ (s : CoreState) (d : DeviceId) (p : Cidr) (a : DeviceId) where
 
 -- ---- one after another
 
--- nothing came from a device that isn't linked
-came_unlinked : (s : CoreState) → IsWhole s → (d : DeviceId) (p : Cidr) (a : DeviceId)
-    → is_linked s.net d a ≡ false → came_at s d p a ≡ None
+-- nothing came from a device from which there is no session
+came_nowhere : (s : CoreState) (d : DeviceId) (p : Cidr) (a : DeviceId)
+    → has_session s d a ≡ false → came_at s d p a ≡ None
 unfolding came_at session
-came_unlinked s w d p a e =
-    elim (find (is_session a d) s.sessions) as (λ o. find (is_session a d) s.sessions ≡ o
-    → option_map (route_with p) (fin.get (unwrap_or o (empty_session a d)).came p) ≡ None) [
-      | None ↦ λ f. ap (option_map (route_with p)) (get_empty p)
-      | Some x ↦ λ f.
-          let got =
-          found_has (λ (y : Session). is_linked s.net y.to y.from ≡ true) (is_session a d)
-          s.sessions x w.linked f in
-          let ends = ends_are a d x got.1 in
-          absurd (true≢false (sym got.0 ∙ (λ i. is_linked s.net (ends.1 i) (ends.0 i)) ∙ e))
-    ] refl
+came_nowhere s d p a e =
+    ap (λ o. option_map (route_with p) (fin.get (unwrap_or o (empty_session a d)).came p))
+    (None-from_is_some (find (is_session a d) s.sessions) e)
+    ∙ ap (option_map (route_with p)) (get_empty p)
+
+-- the senders of the sessions into a device, in order
+pub senders_are : (s : CoreState) → IsWhole s → (d : DeviceId)
+    → map (sender_at (ends_of s.sessions)) (places_into (ends_of s.sessions) d)
+    ≡ filter (has_session s d) (device_ids s.net)
+senders_are s w d =
+    senders_into (ends_of s.sessions) d s.net (has_session s d) w.ascending
+    (All-map (λ (e : SessionEnds). IsDevice s.net e.from) ends s.sessions
+    (λ k x lt. (w.within k x lt).0))
+    (λ a. session-from_is_some a d s.sessions) (λ a. is_some-session a d s.sessions)
+
+-- the route from one more sender
+pub learnt_more : (s : CoreState) (d : DeviceId) (p : Cidr) (index : List SessionEnds)
+    (places : List ℕ) (i : ℕ) (best next : Option (Ranked Choice)) (a : DeviceId)
+    → i < length places → sender_at index (get_or places i 0) ≡ a → next ≡ with_came s d p a best
+    → fold (λ x b. with_came s d p b x) next (map (sender_at index) (drop (i + 1) places))
+    ≡ fold (λ x b. with_came s d p b x) best (map (sender_at index) (drop i places))
+learnt_more s d p index places i best next a within sender is =
+    let rest = map (sender_at index) (drop (i + 1) places) in
+    let from_there : List ℕ → Option (Ranked Choice) =
+    λ ks. fold (λ x b. with_came s d p b x) best (map (sender_at index) ks) in
+    let more : drop i places ≡ get_or places i 0 ∷ drop (i + 1) places =
+    rw add-one (drop-cons places i 0 within) in
+    ap (λ x. fold (λ x b. with_came s d p b x) x rest)
+    (is ∙ ap (λ b. with_came s d p b best) (sym sender))
+    ∙ sym (ap from_there more)
 
 -- an own route is decided
 pub own_decided : (s : CoreState) (d : DeviceId) (p : Cidr) (o : Origin)
@@ -118,12 +143,12 @@ pub own_decided : (s : CoreState) (d : DeviceId) (p : Cidr) (o : Origin)
 own_decided s d p o e = deciding.own_decided s.net (came_at s d p) d p o e
 
 -- else the best of what came in and is accepted
-pub learnt_decided : (s : CoreState) → IsWhole s → (d : DeviceId) (p : Cidr)
-    → None ≡ own_origin s.net d p → (best : Option (Ranked (DeviceId × Bor Attributes)))
+pub learnt_decided : (s : CoreState) (d : DeviceId) (p : Cidr) → None ≡ own_origin s.net d p
+    → (best : Option (Ranked (DeviceId × Bor Attributes)))
     → learnt_choice best
-    ≡ fold (λ x a. with_came s d p a x) None (peers_of s.net d)
+    ≡ fold (λ x a. with_came s d p a x) None (filter (has_session s d) (device_ids s.net))
     → option_map (λ (r : Ranked Choice). r.item) (learnt_choice best)
     ≡ best_of s.net (came_at s d p) d p
-learnt_decided s w d p e best is =
-    deciding.learnt_decided s.net (came_at s d p) d p (came_unlinked s w d p) e
+learnt_decided s d p e best is =
+    deciding.learnt_among s.net (came_at s d p) d p (has_session s d) (came_nowhere s d p) e
     (learnt_choice best) is

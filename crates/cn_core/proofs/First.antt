@@ -8,6 +8,7 @@ use Rattle.cn_base.specs.declared.ids.DeviceId.{DeviceId}
 use Rattle.cn_rib.specs.PrefixSet as prefixes
 use Rattle.cn_rib.proofs.Keyed.{least_there}
 use Rattle.cn_net.specs.Network.{device_ids, same_device}
+use Rattle.cn_net.specs.Sessions.{Ascend}
 use Rattle.cn_record.specs.Recorded.{RecordedOpening}
 use Rattle.cn_core.specs.declared.event.Event.{Event}
 use Rattle.cn_core.specs.declared.event.Event.TheVariants.{Decide, Send}
@@ -16,14 +17,15 @@ use Rattle.cn_core.specs.Laws.{FirstLaw, IsKept}
 use Rattle.cn_core.specs.Machine.{can, state}
 use Rattle.cn_core.specs.Order.{IsQuiet, device_event, first_event, first_of, first_pending, has_mail, is_pending, owes_from, receive_over, send_over}
 use Rattle.cn_core.specs.Owed.{owes}
+use Rattle.cn_core.specs.Start.{ends_of}
 use Rattle.cn_core.specs.State.{CoreState, rib, session}
 use Rattle.cn_core.proofs.Access.{and_parts}
 use Rattle.cn_core.proofs.Kept.{run_holds}
-use Rattle.cn_core.proofs.Searches.{IsApart, apart, found_apart, found_one, found_passes, none_passes, session_found}
+use Rattle.cn_core.proofs.Searches.{apart, found_apart, found_one, found_passes, none_passes, session_found}
 use Rattle.cn_core.proofs.Stands.{quiet_stands, stands_quiet}
 
 -- a session that owes, where there is no mail, can send
-can_send : (s : CoreState) (d : DeviceId) (x : Session) → IsApart s.sessions
+can_send : (s : CoreState) (d : DeviceId) (x : Session) → Ascend (ends_of s.sessions)
     → find has_mail s.sessions ≡ None → find (owes_from s d) s.sessions ≡ Some x
     → IsTrue (can s (Send x.from x.to))
 can_send s d x apart none e =
@@ -43,9 +45,9 @@ can_send s d x apart none e =
     room : (l : ℕ) → nat_lt 0 l ≡ false → nat_lt l 64 ≡ true
     room l e = grind (arith, nat_tests)
 
-enabled_at : (s : CoreState) (d : DeviceId) (o : Option Cidr) (e : Event) → IsApart s.sessions
-    → find has_mail s.sessions ≡ None → prefixes.least (rib s d).dirty ≡ o
-    → device_event s d o ≡ Some e → IsTrue (can s e)
+enabled_at : (s : CoreState) (d : DeviceId) (o : Option Cidr) (e : Event)
+    → Ascend (ends_of s.sessions) → find has_mail s.sessions ≡ None
+    → prefixes.least (rib s d).dirty ≡ o → device_event s d o ≡ Some e → IsTrue (can s e)
 enabled_at s d (Some p) e apart none l is =
     let same : Decide d p ≡ e = cc in
     subst (λ e. IsTrue (can s e)) same (least_there (rib s d).dirty p l)
@@ -60,7 +62,7 @@ enabled_at s d None e apart none l is =
           subst (λ e. IsTrue (can s e)) same (can_send s d x apart none f)
     ] refl is
 
-enabled : (s : CoreState) (e : Event) → IsApart s.sessions
+enabled : (s : CoreState) (e : Event) → Ascend (ends_of s.sessions)
     → (o : Option Session) (d : Option DeviceId) → find has_mail s.sessions ≡ o
     → first_of s o d ≡ Some e → IsTrue (can s e)
 enabled s e apart (Some x) d f is =

@@ -21,7 +21,10 @@ use Rattle.cn_net.specs.Candidates.{best_of}
 use Rattle.cn_net.specs.Islands.{holds_device}
 use Rattle.cn_net.specs.Network.{IsDevice, same_device}
 use Rattle.cn_net.specs.Opening.{Opening}
+use Rattle.cn_net.specs.Sessions.{session_ends}
+use Rattle.cn_net.specs.declared.sessions.SessionEnds.{SessionEnds}
 use Rattle.cn_net.proofs.Keys.{same_device-Decides}
+use Rattle.cn_net.proofs.SessionOrder.{receivers_emulated, receivers_within, senders_within}
 use Rattle.cn_record.specs.Recorded.{RecordedOpening}
 use Rattle.cn_core.specs.declared.event.Event.TheVariants.{Receive, Decide, Send}
 use Rattle.cn_core.specs.declared.event.Step.{Step}
@@ -30,13 +33,12 @@ use Rattle.cn_core.specs.declared.message.Message.{Message}
 use Rattle.cn_core.specs.declared.message.Message.TheVariants.{Withdraw, Announce}
 use Rattle.cn_core.specs.declared.session.Rib.{Rib}
 use Rattle.cn_core.specs.declared.session.Session.{Session}
-use Rattle.cn_core.specs.Laws.{CleanIsDecided, IsKept, IsSpeaking, RunLaw, SpeakersSay, ends_of, held_in, links_into}
+use Rattle.cn_core.specs.Laws.{CleanIsDecided, IsKept, IsSpeaking, RunLaw, SpeakersSay, held_in}
 use Rattle.cn_core.specs.Machine.{IsEnabled, IsRun, IsRunFrom, came_at, can, decide, put_out, receive, send, with_dirty, state, step, taken_in, with_rib, with_session}
 use Rattle.cn_core.specs.Owed.{next_message, owed_by}
-use Rattle.cn_core.specs.Start.{start}
+use Rattle.cn_core.specs.Start.{ends_of, start}
 use Rattle.cn_core.specs.State.{CoreState, apply, apply_all, empty_session, is_session, prefix_of, rib, session}
-use Rattle.cn_core.proofs.Access.{KeepsEnds, all_at_first, came_kept, came_of_rib, ends_are, ends_kept, found_has, found_is, rib_of_session, rib_other, rib_past, rib_same}
-use Rattle.cn_core.proofs.Ends.{all_by_ends, links_emulated, links_within}
+use Rattle.cn_core.proofs.Access.{KeepsEnds, all_at_first, all_by_ends, came_kept, came_of_rib, ends_are, ends_kept, found_has, found_is, rib_of_session, rib_other, rib_past, rib_same}
 use Rattle.cn_core.proofs.Opened.{kept_start}
 
 -- ---- messages
@@ -74,7 +76,7 @@ put_out_ends m = record { from = λ x. refl; to = λ x. refl }
 
 record IsSound (o : Opening) (s : CoreState) : Type 0 where
   net : s.net ≡ o.net
-  ends : ends_of s.sessions ≡ links_into o
+  ends : ends_of s.sessions ≡ session_ends o.net o.emulated
   ribs : length s.ribs ≡ length o.net.devices
   transit : All IsInTransit s.sessions
   few : All (λ x. length x.mail ≤ 64) s.sessions
@@ -133,12 +135,15 @@ sound_rib o s k d x = record {
 
 -- ---- the ends of the sessions are devices
 
-pub within : (o : Opening) (s : CoreState) → ends_of s.sessions ≡ links_into o
+pub within : (o : Opening) (s : CoreState)
+    → ends_of s.sessions ≡ session_ends o.net o.emulated
     → All (λ x. IsDevice o.net x.from × IsDevice o.net x.to) s.sessions
 within o s e =
-    all_by_ends (λ (z : DeviceId × DeviceId). IsDevice o.net z.0 × IsDevice o.net z.1) s.sessions
-    (subst (All (λ (z : DeviceId × DeviceId). IsDevice o.net z.0 × IsDevice o.net z.1)) (sym e)
-    (links_within o))
+    let P : SessionEnds → Type 0 = λ z. IsDevice o.net z.from × IsDevice o.net z.to in
+    all_by_ends P s.sessions (subst (All P) (sym e) (λ k z lt. (
+      senders_within o.net o.emulated k z lt,
+      receivers_within o.net o.emulated k z lt,
+    )))
 
 -- a session that has mail stands in the list
 has_session : (a b : DeviceId) (s : CoreState) (m : Message) (rest : List Message)
@@ -163,12 +168,12 @@ receiver_in_range r s k a b m rest e =
     subst (λ l. b.0 < l) (sym k.ribs)
     (subst (λ (z : DeviceId). z.0 < length net.devices) (ends_are a b got.0 facts.1).1 facts.0.1)
 
-into_emulated : (o : Opening) (s : CoreState) → ends_of s.sessions ≡ links_into o
+into_emulated : (o : Opening) (s : CoreState)
+    → ends_of s.sessions ≡ session_ends o.net o.emulated
     → All (λ x. holds_device o.emulated x.to ≡ true) s.sessions
 into_emulated o s e =
-    all_by_ends (λ (z : DeviceId × DeviceId). holds_device o.emulated z.1 ≡ true) s.sessions
-    (subst (All (λ (z : DeviceId × DeviceId). holds_device o.emulated z.1 ≡ true)) (sym e)
-    (links_emulated o))
+    let P : SessionEnds → Type 0 = λ z. holds_device o.emulated z.to ≡ true in
+    all_by_ends P s.sessions (subst (All P) (sym e) (receivers_emulated o.net o.emulated))
 
 -- no mail stands before a device that isn't emulated
 receiver_emulated : (r : RecordedOpening) (s : CoreState) → IsKept r s

@@ -1,5 +1,4 @@
 pub mod Access
-pub mod Ends
 pub mod Owes
 pub mod OwedLists
 pub mod Offers
@@ -14,8 +13,6 @@ pub mod Places
 pub mod Changed
 pub mod Decided
 pub mod Numbers
-pub mod Segments
-pub mod Starts
 pub mod Tabled
 pub mod Wholes
 pub mod Logged
@@ -24,6 +21,7 @@ mod Rowing
 mod Speaking
 pub mod Lists
 pub mod ListsKept
+pub mod ListsMade
 pub mod Finds
 pub mod Play
 pub mod OneAnswer

@@ -1,12 +1,14 @@
 -- What the engine keeps beside the state is right after each event.
-use Rattle.std.proofs.Common.{◌≡◌, ◌≢◌, ℕ, ◌<◌, ◌≤◌, Bool, true, false, List, [], ◌∷◌, length, get_or, set, Option, Some, None, refl, sym, ap, ◌∙◌, subst, inl, inr, arith, true≢false}
+use Rattle.std.proofs.Common.{◌≡◌, ◌≢◌, ℕ, zero, suc, ◌<◌, ◌≤◌, Bool, true, false, List, [], ◌∷◌, length, get_or, set, Option, Some, None, refl, sym, ap, ◌∙◌, subst, inl, inr, arith, true≢false}
 use Rattle.std.specs.Prelude.{◌==◌, ◌&&◌, ◌⊎◌, not, Err, Ok, OnErr, OnOk, Result}
 use Rattle.std.specs.FinMap as fin
 use Rattle.std.proofs.lemmas.Bool.{cases_lt}
 use Rattle.std.proofs.lemmas.Bool.Decides.{eqb_tells}
 use Rattle.std.proofs.lemmas.List.{get_or-set_other, get_or-set_same, get_or_default, length-set, set-get_or}
 use Rattle.cn_base.specs.declared.ids.DeviceId.{DeviceId}
-use Rattle.cn_net.specs.Network.{Network, IsDevice, is_linked, same_device}
+use Rattle.cn_net.specs.Network.{Network, IsDevice, same_device}
+use Rattle.cn_net.specs.Sessions.{Ascend}
+use Rattle.cn_net.specs.declared.sessions.SessionEnds.{SessionEnds}
 use Rattle.cn_net.proofs.Keys.{same_device-Decides}
 use Rattle.cn_core.specs.declared.message.Message.{Message}
 use Rattle.cn_core.specs.declared.owed.Due.TheVariants.{Nothing}
@@ -16,8 +18,9 @@ use Rattle.cn_core.specs.declared.session.Session.{Session}
 use Rattle.cn_core.specs.Owed.{next_message, owed, owed_by, owes}
 use Rattle.cn_core.specs.OwedLists.{AreElsewhere, AreListed, AreListedFrom, IsListed, IsRight, only_due, without_message}
 use Rattle.cn_core.specs.Parts.{put_out_if, received, received_of, with_all_dirty}
+use Rattle.cn_core.specs.Start.{ends, ends_of}
 use Rattle.cn_core.specs.State.{CoreState, empty_rib, prefix_of, rib}
-use Rattle.cn_core.specs.Whole.{ArePlacesOf, IsWhole, by_ends}
+use Rattle.cn_core.specs.Whole.{ArePlacesOf, IsWhole}
 use Rattle.cn_core.proofs.Lists.{listed-removed}
 use Rattle.cn_core.proofs.OwedLists.{is_empty-listed}
 use Rattle.cn_core.proofs.Owes.{owed-sent}
@@ -37,17 +40,19 @@ set_cases xs i k v d inside = elim (eqb_tells k i) [
 
 -- ---- the order of the sessions
 
+ends_of-set : (xs : List Session) (i : ℕ) (x nx : Session) → x ≡ get_or xs i x → ends nx ≡ ends x
+    → ends_of (set xs i nx) ≡ ends_of xs
+ends_of-set [] i x nx read same = refl
+ends_of-set (y ∷ ys) zero x nx read same = ap (λ e. e ∷ ends_of ys) (same ∙ ap ends read)
+ends_of-set (y ∷ ys) (suc i) x nx read same =
+    ap (λ es. ends y ∷ es) (ends_of-set ys i x nx read same)
+
 -- these have the same ends
 record AreAlike (xs ys : List Session) : Type 0 where
   many : length ys ≡ length xs
   from : (k : ℕ) (x : Session) → k < length xs → (get_or ys k x).from ≡ (get_or xs k x).from
   to : (k : ℕ) (x : Session) → k < length xs → (get_or ys k x).to ≡ (get_or xs k x).to
-
-by_ends-alike : (x u y v : Session) → u.from ≡ x.from → u.to ≡ x.to → v.from ≡ y.from
-    → v.to ≡ y.to → by_ends u v ≡ by_ends x y
-by_ends-alike x u y v uf ut vf vt = λ i. by_ends
-    (record { from = uf i; to = ut i; sent = x.sent; mail = x.mail; came = x.came })
-    (record { from = vf i; to = vt i; sent = y.sent; mail = y.mail; came = y.came })
+  all : ends_of ys ≡ ends_of xs
 
 alike_set : (xs : List Session) (i : ℕ) (x nx : Session) → i < length xs → x ≡ get_or xs i x
     → nx.from ≡ x.from → nx.to ≡ x.to → AreAlike xs (set xs i nx)
@@ -65,6 +70,7 @@ alike_set xs i x nx inside read from to = record {
         ∙ ap (λ (z : Session). z.to) (session k d here.0)
     | inr other ↦ ap (λ (z : Session). z.to) other.1
   ];
+  all = ends_of-set xs i x nx read (λ j. record { from = from j; to = to j });
 }
   where
     session : (k : ℕ) (d : Session) → k ≡ i → x ≡ get_or xs k d
@@ -72,28 +78,20 @@ alike_set xs i x nx inside read from to = record {
         read ∙ get_or_default xs i x d inside ∙ ap (λ j. get_or xs j d) (sym at)
 
 alike_itself : (xs : List Session) → AreAlike xs xs
-alike_itself xs = record { many = refl; from = λ k x lt. refl; to = λ k x lt. refl }
+alike_itself xs =
+    record { many = refl; from = λ k x lt. refl; to = λ k x lt. refl; all = refl }
 
 whole_alike : (nn : Network) (ss ts : List Session) (rs qs : List Rib)
     → IsWhole (state_of nn ss rs) → AreAlike ss ts → length qs ≡ length rs
     → IsWhole (state_of nn ts qs)
 whole_alike nn ss ts rs qs w same ribs = record {
-  ascending = λ i j d lt within.
-      let inside : j < length ss = omega (arith, within, same.many) in
-      by_ends-alike (get_or ss i d) (get_or ts i d) (get_or ss j d) (get_or ts j d)
-      (same.from i d (omega (arith, lt, inside))) (same.to i d (omega (arith, lt, inside)))
-      (same.from j d inside) (same.to j d inside)
-      ∙ w.ascending i j d lt inside;
+  ascending = subst Ascend (sym same.all) w.ascending;
   within = λ k d lt.
       let inside : k < length ss = omega (arith, lt, same.many) in
       let was = w.within k d inside in (
         subst (IsDevice nn) (sym (same.from k d inside)) was.0,
         subst (IsDevice nn) (sym (same.to k d inside)) was.1,
       );
-  linked = λ k d lt.
-      let inside : k < length ss = omega (arith, lt, same.many) in
-      (λ i. is_linked nn (same.to k d inside i) (same.from k d inside i))
-      ∙ w.linked k d inside;
   ribs = ribs ∙ w.ribs;
   few = w.few;
 }
@@ -162,23 +160,24 @@ put_out-to (Some m) x = refl
 
 -- ---- the whole state
 
-module _ (nn : Network) (ss : List Session) (rs : List Rib) (os : List Owed)
-    (w : IsWhole (state_of nn ss rs)) (is : AreListed (state_of nn ss rs) os) where
+module _ (nn : Network) (ss : List Session) (rs : List Rib) (index : List SessionEnds)
+    (os : List Owed) (is : IsRight (state_of nn ss rs) index os) where
   pub right_received : (i b : ℕ) (x nx : Session) (y ny : Rib) → i < length ss
       → x ≡ get_or ss i x → b < length rs → y ≡ get_or rs b y → nx ≡ received x
       → ny ≡ with_all_dirty x.mail y
-      → IsWhole (state_of nn (set ss i nx) (set rs b ny))
-      × AreListed (state_of nn (set ss i nx) (set rs b ny)) os
+      → IsRight (state_of nn (set ss i nx) (set rs b ny)) index os
   unfolding rib
   right_received i b x nx y ny inside read within read_rib new_x new_y =
       let from = ap (λ (z : Session). z.from) new_x ∙ received-from x.mail x in
       let to = ap (λ (z : Session). z.to) new_x ∙ received-to x.mail x in
       let sent = ap (λ (z : Session). z.sent) new_x ∙ received-sent x.mail x in
       let best = ap (λ (z : Rib). z.best) new_y ∙ with_all_dirty-best x.mail y in
-      let same = alike_set ss i x nx inside read from to in (
-        whole_alike nn ss (set ss i nx) rs (set rs b ny) w same (length-set rs b ny),
-        record {
-          many = is.many ∙ sym same.many;
+      let same = alike_set ss i x nx inside read from to in record {
+        whole =
+            whole_alike nn ss (set ss i nx) rs (set rs b ny) is.whole same (length-set rs b ny);
+        indexed = is.indexed ∙ sym same.all;
+        listed = record {
+          many = is.listed.many ∙ sym same.many;
           each = λ k d o lt.
               let lt' : k < length ss = omega (arith, lt, same.many) in
               subst (λ m. IsListed m (get_or os k o))
@@ -194,29 +193,30 @@ module _ (nn : Network) (ss : List Session) (rs : List Rib) (os : List Owed)
               ])
               (best_set rs b (get_or (set ss i nx) k d).from.0 y ny within read_rib best
               ∙ ap (λ (z : DeviceId). (get_or rs z.0 empty_rib).best) (same.from k d lt'))))
-              (is.each k d o lt');
-        },
-      )
+              (is.listed.each k d o lt');
+        };
+      }
 
   pub right_sent : (i : ℕ) (x nx : Session) (y ny : Owed) (o : Option Message) → i < length ss
       → x ≡ get_or ss i x → y ≡ get_or os i y
       → o ≡ next_message (owed_by (state_of nn ss rs) x) → nx ≡ put_out_if o x
       → ny ≡ without_message y o
-      → IsWhole (state_of nn (set ss i nx) rs)
-      × AreListed (state_of nn (set ss i nx) rs) (set os i ny)
+      → IsRight (state_of nn (set ss i nx) rs) index (set os i ny)
   right_sent i x nx y ny o inside read read_list first new_x new_y =
       let s = state_of nn ss rs in
       let from = ap (λ (z : Session). z.from) new_x ∙ put_out-from o x in
       let to = ap (λ (z : Session). z.to) new_x ∙ put_out-to o x in
       let same = alike_set ss i x nx inside read from to in
-      let many = is.many in
+      let many = is.listed.many in
       let inside' : i < length os = omega (arith, inside, many) in
       let was : IsListed (owed_by s x) y =
       subst (λ z. IsListed (owed_by s z) y) (sym read)
-      (subst (IsListed (owed_by s (get_or ss i x))) (sym read_list) (is.each i x y inside)) in (
-        whole_alike nn ss (set ss i nx) rs rs w same refl,
-        record {
-          many = length-set os i ny ∙ is.many ∙ sym same.many;
+      (subst (IsListed (owed_by s (get_or ss i x))) (sym read_list)
+      (is.listed.each i x y inside)) in record {
+        whole = whole_alike nn ss (set ss i nx) rs rs is.whole same refl;
+        indexed = is.indexed ∙ sym same.all;
+        listed = record {
+          many = length-set os i ny ∙ is.listed.many ∙ sym same.many;
           each = λ k d z lt.
               let lt' : k < length ss = omega (arith, lt, same.many) in
               elim (set_cases ss i k nx d inside) [
@@ -236,10 +236,10 @@ module _ (nn : Network) (ss : List Session) (rs : List Rib) (os : List Owed)
                     (subst (λ m. IsListed m (get_or (set os i ny) k z))
                     (owed_by-sessions nn ss (set ss i nx) rs (get_or ss k d))
                     (subst (IsListed (owed_by s (get_or ss k d)))
-                    (sym (get_or-set_other os i k ny z other.0)) (is.each k d z lt')))
+                    (sym (get_or-set_other os i k ny z other.0)) (is.listed.each k d z lt')))
               ];
-        },
-      )
+        };
+      }
 
   -- ---- after a decision
 
@@ -256,18 +256,21 @@ module _ (nn : Network) (ss : List Session) (rs : List Rib) (os : List Owed)
           ap (λ (v : DeviceId). (get_or rs v.0 empty_rib).best) from
           ∙ sym (ap (λ (v : Rib). v.best) (read ∙ get_or_default rs d.0 y empty_rib inside)) in
           subst (λ b. IsListed (owed nn u.from u.to u.sent b) (get_or os k z)) best
-          (is.each k x z (omega (arith, lt, places.inside)));
+          (is.listed.each k x z (omega (arith, lt, places.inside)));
     }
 
-    pub right_decided : (ny : Rib) (new : List Owed) → d.0 < length rs
+    -- and after a decision
+    pub right-decide : (ny : Rib) (new : List Owed) → d.0 < length rs
         → AreListedFrom nn ny.best ss start end new → AreElsewhere start end os new
-        → IsWhole (state_of nn ss (set rs d.0 ny))
-        × AreListed (state_of nn ss (set rs d.0 ny)) new
+        → IsRight (state_of nn ss (set rs d.0 ny)) index new
     unfolding rib
-    right_decided ny new inside from elsewhere = (
-      whole_alike nn ss ss rs (set rs d.0 ny) w (alike_itself ss) (length-set rs d.0 ny),
-      record {
-        many = elsewhere.many ∙ is.many;
+    right-decide ny new inside from elsewhere = record {
+      whole =
+          whole_alike nn ss ss rs (set rs d.0 ny) is.whole (alike_itself ss)
+          (length-set rs d.0 ny);
+      indexed = is.indexed;
+      listed = record {
+        many = elsewhere.many ∙ is.listed.many;
         each = λ k x z lt.
             let u : Session = get_or ss k x in
             elim (same_device u.from d) as (λ t. same_device u.from d ≡ t
@@ -298,10 +301,10 @@ module _ (nn : Network) (ss : List Session) (rs : List Rib) (os : List Owed)
                   subst (λ b. IsListed (owed nn u.from u.to u.sent b) (get_or new k z)) (sym best)
                   (subst (IsListed (owed nn u.from u.to u.sent
                   (get_or rs u.from.0 empty_rib).best))
-                  (sym (elsewhere.same k z (outside k x t))) (is.each k x z lt))
+                  (sym (elsewhere.same k z (outside k x t))) (is.listed.each k x z lt))
             ] refl;
-      },
-    )
+      };
+    }
       where
         outside : (k : ℕ) (x : Session) → same_device (get_or ss k x).from d ≡ false
             → (k < start) ⊎ (end ≤ k)
@@ -329,22 +332,20 @@ both_on_ok : {T E : Type 0} (P Q : Type 0) (r : Result T E) → OnOk r P → OnO
 both_on_ok P Q (Ok x) p q = (p, q)
 both_on_ok P Q (Err e) p q = tt
 
-module _ (nn : Network) (ss : List Session) (rs : List Rib) (os : List Owed)
-    (is : IsRight (state_of nn ss rs) os) {T E : Type 0} (r : Result T E) where
+module _ (nn : Network) (ss : List Session) (rs : List Rib) (index : List SessionEnds)
+    (os : List Owed) (is : IsRight (state_of nn ss rs) index os) {T E : Type 0} (r : Result T E)
+    where
   -- what is kept is right after a receive, whether or not it could be done
   pub right-receive : (i b : ℕ) (x nx : Session) (y ny : Rib) → i < length ss
       → x ≡ get_or ss i x → b < length rs → y ≡ get_or rs b y → OnOk r (nx ≡ received x)
       → OnOk r (ny ≡ with_all_dirty x.mail y) → OnErr r (nx ≡ x) → OnErr r (ny ≡ y)
-      → IsRight (state_of nn (set ss i nx) (set rs b ny)) os
+      → IsRight (state_of nn (set ss i nx) (set rs b ny)) index os
   right-receive i b x nx y ny inside read within read_rib ok_x ok_y err_x err_y =
       on_either r
       (λ (e : (nx ≡ received x) × (ny ≡ with_all_dirty x.mail y)).
-      let new =
-      right_received nn ss rs os is.whole is.listed i b x nx y ny inside read within read_rib e.0
-      e.1 in
-      record { whole = new.0; listed = new.1 })
+      right_received nn ss rs index os is i b x nx y ny inside read within read_rib e.0 e.1)
       (λ (e : (nx ≡ x) × (ny ≡ y)).
-      subst (λ (t : List Session × List Rib). IsRight (state_of nn t.0 t.1) os)
+      subst (λ (t : List Session × List Rib). IsRight (state_of nn t.0 t.1) index os)
       (λ j. (
         sym (ap (set ss i) (e.0 ∙ read) ∙ set-get_or ss i x) j,
         sym (ap (set rs b) (e.1 ∙ read_rib) ∙ set-get_or rs b y) j,
@@ -357,33 +358,19 @@ module _ (nn : Network) (ss : List Session) (rs : List Rib) (os : List Owed)
       → x ≡ get_or ss i x → y ≡ get_or os i y
       → o ≡ next_message (owed_by (state_of nn ss rs) x) → OnOk r (nx ≡ put_out_if o x)
       → OnOk r (ny ≡ without_message y o) → OnErr r (nx ≡ x) → OnErr r (ny ≡ y)
-      → IsRight (state_of nn (set ss i nx) rs) (set os i ny)
+      → IsRight (state_of nn (set ss i nx) rs) index (set os i ny)
   right-send i x nx y ny o inside read read_list first ok_x ok_y err_x err_y =
       on_either r
       (λ (e : (nx ≡ put_out_if o x) × (ny ≡ without_message y o)).
-      let new =
-      right_sent nn ss rs os is.whole is.listed i x nx y ny o inside read read_list first e.0
-      e.1 in
-      record { whole = new.0; listed = new.1 })
+      right_sent nn ss rs index os is i x nx y ny o inside read read_list first e.0 e.1)
       (λ (e : (nx ≡ x) × (ny ≡ y)).
-      subst (λ (t : List Session × List Owed). IsRight (state_of nn t.0 rs) t.1)
+      subst (λ (t : List Session × List Owed). IsRight (state_of nn t.0 rs) index t.1)
       (λ j. (
         sym (ap (set ss i) (e.0 ∙ read) ∙ set-get_or ss i x) j,
         sym (ap (set os i) (e.1 ∙ read_list) ∙ set-get_or os i y) j,
       )) is)
       (both_on_ok (nx ≡ put_out_if o x) (ny ≡ without_message y o) r ok_x ok_y)
       (both_on_err (nx ≡ x) (ny ≡ y) r err_x err_y)
-
--- and after a decision
-pub right-decide : (nn : Network) (ss : List Session) (rs : List Rib) (os : List Owed)
-    → IsRight (state_of nn ss rs) os
-    → (d : DeviceId) (start end : ℕ) → ArePlacesOf d ss start end → (ny : Rib) (new : List Owed)
-    → d.0 < length rs → AreListedFrom nn ny.best ss start end new → AreElsewhere start end os new
-    → IsRight (state_of nn ss (set rs d.0 ny)) new
-right-decide nn ss rs os is d start end places ny new inside from elsewhere =
-    let new =
-    right_decided nn ss rs os is.whole is.listed d start end places ny new inside from elsewhere in
-    record { whole = new.0; listed = new.1 }
 
 -- ---- whether a session owes something
 
@@ -392,12 +379,13 @@ twice true = refl
 twice false = refl
 
 -- a session owes something exactly where its lists aren't empty
-pub owes-listed : (nn : Network) (ss : List Session) (rs : List Rib) (os : List Owed)
-    → IsRight (state_of nn ss rs) os → (s : CoreState) → state_of nn ss rs ≡ s
+pub owes-listed : (nn : Network) (ss : List Session) (rs : List Rib) (index : List SessionEnds)
+    (os : List Owed)
+    → IsRight (state_of nn ss rs) index os → (s : CoreState) → state_of nn ss rs ≡ s
     → (i : ℕ) (y : Owed) (b : Bool) → i < length s.sessions → y ≡ get_or os i y
     → b ≡ ((fin.len y.withdrawals == 0) && (fin.len y.announcements == 0))
     → (x : Session) → not b ≡ owes s (get_or s.sessions i x)
-owes-listed nn ss rs os is s v i y b inside read empty x =
+owes-listed nn ss rs index os is s v i y b inside read empty x =
     let listed : AreListed s os = subst (λ (t : CoreState). AreListed t os) v is.listed in
     let m = owed_by s (get_or s.sessions i x) in
     ap not (empty ∙ is_empty-listed m y

@@ -1,6 +1,6 @@
 -- The numbers of the devices, one after another.
 use Rattle.std.proofs.Common.{◌≡◌, ℕ, suc, ◌+◌, ◌-◌, ◌<◌, ◌≤◌, Bool, true, false, cond, List, [], ◌∷◌, ◌++◌, length, map, Some, None, refl, sym, ap, ◌∙◌, arith, append_assoc}
-use Rattle.std.specs.List.{find, flat_map, range_with_len}
+use Rattle.std.specs.List.{find, range_with_len}
 use Rattle.cn_base.specs.declared.ids.DeviceId.{DeviceId}
 use Rattle.cn_net.specs.Network.{Network, device_ids}
 
@@ -57,11 +57,3 @@ mapped_next f old new k n h e =
     ap (λ xs. xs ++ map f (ids (k + 1) (n - (k + 1)))) e
     ∙ append_assoc old (f (record { 0 = k }) ∷ []) (map f (ids (k + 1) (n - (k + 1))))
     ∙ ap (λ xs. old ++ map f xs) (sym (ids_next k n h))
-
-pub joined_next : {A : Type 0} (f : DeviceId → List A) (old new : List A) (k n : ℕ) → k < n
-    → new ≡ old ++ f (record { 0 = k })
-    → new ++ flat_map f (ids (k + 1) (n - (k + 1))) ≡ old ++ flat_map f (ids k (n - k))
-joined_next f old new k n h e =
-    ap (λ xs. xs ++ flat_map f (ids (k + 1) (n - (k + 1)))) e
-    ∙ append_assoc old (f (record { 0 = k })) (flat_map f (ids (k + 1) (n - (k + 1))))
-    ∙ ap (λ xs. old ++ flat_map f xs) (sym (ids_next k n h))

@@ -1,12 +1,12 @@
 -- The state at the start.
 use Rattle.std.proofs.Common.{◌≡◌, ℕ, ◌<◌, ◌≤◌, Bool, true, false, cond, List, [], ◌∷◌, length, get_or, map, Option, Some, None, refl, sym, ap, ◌∙◌, subst, inl, inr, arith}
 use Rattle.std.specs.Prelude.{◌||◌, ◌&&◌, All, is_some, nat_lt, option_and_then, option_map, unwrap_or}
-use Rattle.std.specs.List.{find, flat_map, fold, list_any}
+use Rattle.std.specs.List.{find, fold, list_any}
 use Rattle.std.specs.FinMap as fin
 use Rattle.std.proofs.lemmas.Bool.{cases_lt}
 use Rattle.std.proofs.lemmas.Bool.Decides.{nat_tests}
 use Rattle.std.proofs.lemmas.List.{get_or-map, get_or_past, length-map}
-use Rattle.std.proofs.lemmas.List.Elements.{All-append, All-map, All-nil}
+use Rattle.std.proofs.lemmas.List.Elements.{All-map}
 use Rattle.std.proofs.lemmas.List.FromFn.{get_or-map-range_with_len, length-range_with_len}
 use Rattle.std.proofs.lemmas.Option.{slice_get_past}
 use Rattle.cn_base.specs.Cidr.{Cidr, same_prefix}
@@ -20,6 +20,8 @@ use Rattle.cn_net.specs.Candidates.{best_of, better_of, own_choice, usable}
 use Rattle.cn_net.specs.Islands.{holds_device, label_of}
 use Rattle.cn_net.specs.Network.{Network, device_ids, device_of, own_of, own_origin}
 use Rattle.cn_net.specs.Opening.{Opening}
+use Rattle.cn_net.specs.Sessions.{session_ends}
+use Rattle.cn_net.specs.declared.sessions.SessionEnds.{SessionEnds}
 use Rattle.cn_record.specs.Recorded.{RecordedOpening}
 use Rattle.cn_record.specs.Said.{is_one_island, island_originates}
 use Rattle.cn_net.specs.declared.device.Device.{Device}
@@ -28,29 +30,33 @@ use Rattle.cn_core.specs.declared.session.Rib.{Rib}
 use Rattle.cn_core.specs.declared.session.Session.{Session}
 use Rattle.cn_core.specs.Laws.{CleanIsDecided, IsKept, IsSpeaking, SpeakersSay, held_in}
 use Rattle.cn_core.specs.Machine.{came_at, route_with}
-use Rattle.cn_core.specs.Start.{emulated_rib, first_rib, first_ribs, first_sessions, own_prefixes, receivers, speaker_rib, start}
+use Rattle.cn_core.specs.Start.{emulated_rib, ends_of, first_rib, first_ribs, first_sessions, own_prefixes, speaker_rib, start}
 use Rattle.cn_core.specs.State.{apply_all, empty_rib, empty_session, is_session, rib, session}
-use Rattle.cn_core.proofs.Access.{found_has}
-use Rattle.cn_core.proofs.Ends.{first_ends}
+use Rattle.cn_core.proofs.Access.{ends_of-empty, found_has}
 use Rattle.cn_core.proofs.Speaking.{beyond_says_nothing, speaker_says}
 
 -- ---- the sessions are empty
-
-rows_empty : (P : Session → Type 0) → ((a b : DeviceId) → P (empty_session a b))
-    → (o : Opening) (ds : List DeviceId)
-    → All P (flat_map (λ a. map (empty_session a) (receivers o a)) ds)
-rows_empty P p o [] = All-nil P
-rows_empty P p o (a ∷ ds) =
-    All-append P (map (empty_session a) (receivers o a))
-    (flat_map (λ a. map (empty_session a) (receivers o a)) ds)
-    (All-map P (empty_session a) (receivers o a) (λ k d lt. p a (get_or (receivers o a) k d)))
-    (rows_empty P p o ds)
 
 -- a fact of every empty session
 all_empty : (P : Session → Type 0) → ((a b : DeviceId) → P (empty_session a b)) → (o : Opening)
     → All P (first_sessions o)
 unfolding first_sessions
-all_empty P p o = rows_empty P p o (device_ids o.net)
+all_empty P p o =
+    let es = session_ends o.net o.emulated in
+    All-map P (λ (e : SessionEnds). empty_session e.from e.to) es
+    (λ k d lt. p (get_or es k d).from (get_or es k d).to)
+
+-- the sessions that are made by an index are the first
+pub sessions-made : (o : Opening) (index : List SessionEnds) (xs : List Session)
+    → index ≡ session_ends o.net o.emulated → xs ≡ map (λ e. empty_session e.from e.to) index
+    → xs ≡ first_sessions o
+unfolding first_sessions
+sessions-made o index xs is made = made ∙ ap (map (λ e. empty_session e.from e.to)) is
+
+-- the sessions at the start have the ends of all sessions
+first_ends : (o : Opening) → ends_of (first_sessions o) ≡ session_ends o.net o.emulated
+unfolding first_sessions
+first_ends o = ends_of-empty (session_ends o.net o.emulated)
 
 nothing_came : (r : RecordedOpening) (d : DeviceId) (q : Cidr) → came_at (start r) d q ≡ (λ a. None)
 unfolding came_at session start

@@ -2,7 +2,7 @@
 use Rattle.std.proofs.Common.{◌≡◌, Bool, true, false, [], Option, Some, None, refl, sym, ap, ◌∙◌, subst, true≢false}
 use Rattle.std.proofs.lemmas.Bool.{not-false, not-true}
 use Rattle.std.specs.Prelude.{All, is_some, option_map, unwrap_or}
-use Rattle.std.specs.List.{find, list_any}
+use Rattle.std.specs.List.{Contains, find}
 use Rattle.std.specs.FinMap as fin
 use Rattle.cn_base.specs.Cidr.{Cidr}
 use Rattle.cn_base.specs.declared.ids.DeviceId.{DeviceId}
@@ -23,6 +23,7 @@ use Rattle.cn_net.proofs.Candidates.{best_of_is_best}
 use Rattle.cn_net.proofs.Offering.{offer-gives, offer_of-gives}
 use Rattle.cn_net.proofs.Peers.{linked_devices}
 use Rattle.cn_net.proofs.Quiet.{quiet_agrees}
+use Rattle.cn_net.proofs.Senders.{linked_session}
 use Rattle.cn_net.proofs.States.{has_one_state}
 use Rattle.cn_record.specs.Recorded.{IsRecorded, RecordedOpening}
 use Rattle.cn_record.specs.Said.{said_by}
@@ -33,8 +34,7 @@ use Rattle.cn_core.specs.Machine.{came_at, route_with, state}
 use Rattle.cn_core.specs.Order.{IsQuiet}
 use Rattle.cn_core.specs.Owed.{advertised, attributes_of, offered_attributes, owed_by}
 use Rattle.cn_core.specs.State.{CoreState, apply_all, empty_session, is_session, rib, session}
-use Rattle.cn_core.proofs.Access.{ends_are, found_has}
-use Rattle.cn_core.proofs.Ends.{found_by_ends, joins_ends, linked_stands}
+use Rattle.cn_core.proofs.Access.{ends_are, found_has, is_some-session}
 use Rattle.cn_core.proofs.Kept.{run_holds}
 use Rattle.cn_core.proofs.Owes.{owed_empty}
 
@@ -83,10 +83,10 @@ no_session_no_offer r s k valid a d p held m none =
     by_offer (Some route) e =
         let linked = offer_needs_link o.net a d p held route e in
         let ends = linked_devices o.net a d valid linked in
-        absurd (true≢false
-        (sym (linked_stands o a d ends.0 ends.1 linked m)
-        ∙ ap (λ es. list_any (joins_ends a d) es) (sym k.ends) ∙ sym (found_by_ends a d s.sessions)
-        ∙ ap is_some none))
+        let there =
+        subst (λ es. Contains es (record { from = a; to = d })) (sym k.ends)
+        (linked_session o.net o.emulated a d ends.0 ends.1 linked m) in
+        absurd (true≢false (sym (is_some-session a d s.sessions there) ∙ ap is_some none))
 
 -- where nothing is under way and nothing is owed, what came in is what is offered
 came_is_offered : (r : RecordedOpening) (s : CoreState) → IsKept r s → IsValid r.opening.net

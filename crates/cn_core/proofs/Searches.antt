@@ -1,16 +1,18 @@
 -- Searches in lists, and the session that stands under two ends.
-use Rattle.std.proofs.Common.{◌≡◌, Bool, true, false, cond, List, [], ◌∷◌, Some, None, Less, refl, sym, ap, ◌∙◌, subst, arith}
-use Rattle.std.specs.Prelude.{All, unwrap_or}
-use Rattle.std.specs.List.{AllPairs, Contains, find}
-use Rattle.std.proofs.lemmas.Bool.Decides.{nat_tests}
+use Rattle.std.proofs.Common.{◌≡◌, Bool, true, false, cond, List, [], ◌∷◌, Some, None, refl, sym, ap, ◌∙◌, subst, arith}
+use Rattle.std.specs.Prelude.{All, slice_get, unwrap_or}
+use Rattle.std.specs.List.{Contains, find}
+use Rattle.std.proofs.lemmas.List.{get_or-map, length-map}
 use Rattle.std.proofs.lemmas.List.Elements.{All-cons, All-head, All-nil, All-tail}
-use Rattle.cn_base.specs.declared.ids.DeviceId.{DeviceId}
+use Rattle.std.proofs.lemmas.Option.{slice_get-get_or}
+use Rattle.cn_lists.proofs.Finding.{Contains-from_find}
 use Rattle.cn_net.specs.Opening.{Opening}
+use Rattle.cn_net.specs.Sessions.{Ascend, session_ends}
+use Rattle.cn_net.proofs.SessionOrder.{ends_ascend}
 use Rattle.cn_core.specs.declared.session.Session.{Session}
-use Rattle.cn_core.specs.Laws.{ends_of, links_into}
+use Rattle.cn_core.specs.Start.{ends, ends_of}
 use Rattle.cn_core.specs.State.{CoreState, empty_session, is_session, session}
-use Rattle.cn_core.proofs.Access.{ends_are, own_ends}
-use Rattle.cn_core.proofs.Ends.{links_ascend, pair_cmp, pairs_by_ends, pairs_head, pairs_tail}
+use Rattle.cn_core.proofs.Places.{found_at, placed}
 
 -- ---- a search that finds nothing
 
@@ -57,53 +59,25 @@ found_one P t (y ∷ ys) x all e =
 -- ---- sessions stand apart
 
 -- the ends of the sessions ascend
-pub IsApart : List Session → Type 0
-IsApart xs = AllPairs (λ x y. pair_cmp (x.from, x.to) (y.from, y.to) ≡ Less) xs
-
-pub apart : (o : Opening) (s : CoreState) → ends_of s.sessions ≡ links_into o → IsApart s.sessions
-unfolding IsApart
-apart o s e =
-    pairs_by_ends (λ x y. pair_cmp x y ≡ Less) s.sessions
-    (subst (AllPairs (λ x y. pair_cmp x y ≡ Less)) (sym e) (links_ascend o))
-
-not_below_itself : (a b : DeviceId) → pair_cmp (a, b) (a, b) ≡ Less → ⊥
-unfolding pair_cmp
-not_below_itself a b h = grind (arith, nat_tests)
+pub apart : (o : Opening) (s : CoreState)
+    → ends_of s.sessions ≡ session_ends o.net o.emulated → Ascend (ends_of s.sessions)
+apart o s e = subst Ascend (sym e) (ends_ascend o.net o.emulated)
 
 -- a session that is found is that of its ends
-pub found_apart : (t : Session → Bool) (xs : List Session) (x : Session) → IsApart xs
+pub found_apart : (t : Session → Bool) (xs : List Session) (x : Session) → Ascend (ends_of xs)
     → find t xs ≡ Some x → find (is_session x.from x.to) xs ≡ Some x
-unfolding IsApart
-found_apart t [] x h e = cc
-found_apart t (y ∷ ys) x h e =
-    elim (t y) as
-    (λ b. cond b (Some y) (find t ys) ≡ Some x → find (is_session x.from x.to) (y ∷ ys) ≡ Some x) [
-      | true ↦
-          λ e.
-          let same : y ≡ x = cc in
-          subst (λ (z : Session). find (is_session z.from z.to) (y ∷ ys) ≡ Some z) same
-          (ap (λ b. cond b (Some y) (find (is_session y.from y.to) ys)) (own_ends y))
-      | false ↦ λ e.
-          let rest =
-          found_apart t ys x
-          (pairs_tail (λ (x y : Session). pair_cmp (x.from, x.to) (y.from, y.to) ≡ Less) y ys h)
-          e in
-          let below =
-          found_one (λ (z : Session). pair_cmp (y.from, y.to) (z.from, z.to) ≡ Less) t ys x
-          (pairs_head (λ (x y : Session). pair_cmp (x.from, x.to) (y.from, y.to) ≡ Less) y ys h)
-          e in
-          elim (is_session x.from x.to y) as (λ b. is_session x.from x.to y ≡ b
-          → cond b (Some y) (find (is_session x.from x.to) ys) ≡ Some x) [
-            | true ↦ λ b.
-                let ends = ends_are x.from x.to y b in
-                absurd (not_below_itself x.from x.to
-                ((λ i. pair_cmp (sym ends.0 i, sym ends.1 i) (x.from, x.to)) ∙ below))
-            | false ↦ λ b. rest
-          ] refl
-    ] e
+found_apart t xs x up e =
+    let at = (Contains-from_find t xs x e).0 in
+    let i = at.0 in
+    let many = length-map xs ends in
+    let inside = at.1 in
+    let here : slice_get (ends_of xs) i ≡ Some (ends x) =
+    slice_get-get_or (ends_of xs) i (ends x) (omega arith)
+    ∙ ap Some (get_or-map ends xs i x (ends x) inside ∙ ap ends at.2) in
+    found_at x.from x.to xs i x (placed x.from x.to xs up i here) ∙ ap Some at.2
 
-pub session_found : (t : Session → Bool) (s : CoreState) (x : Session) → IsApart s.sessions
-    → find t s.sessions ≡ Some x → session s x.from x.to ≡ x
+pub session_found : (t : Session → Bool) (s : CoreState) (x : Session)
+    → Ascend (ends_of s.sessions) → find t s.sessions ≡ Some x → session s x.from x.to ≡ x
 unfolding session
 session_found t s x h e =
     ap (λ o. unwrap_or o (empty_session x.from x.to)) (found_apart t s.sessions x h e)

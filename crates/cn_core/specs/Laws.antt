@@ -1,6 +1,5 @@
 -- What holds of the state after every run.
-use Rattle.std.specs.Prelude.{◌≡◌, ◌≤◌, ◌↔◌, true, false, List, length, map, Some, None, All, IsTrue}
-use Rattle.std.specs.List.{flat_map}
+use Rattle.std.specs.Prelude.{◌≡◌, ◌≤◌, ◌↔◌, true, false, List, length, Some, None, All, IsTrue}
 use Rattle.std.specs.FinMap as fin
 use Rattle.cn_base.specs.Cidr.{Cidr}
 use Rattle.cn_base.specs.declared.ids.DeviceId.{DeviceId}
@@ -9,30 +8,22 @@ use Rattle.cn_rib.specs.PrefixSet as set
 use Rattle.cn_net.specs.Candidates.{best_of}
 use Rattle.cn_net.specs.Boundary.{AgreeInside}
 use Rattle.cn_net.specs.Islands.{holds_device, outside_of}
-use Rattle.cn_net.specs.Network.{device_ids}
 use Rattle.cn_net.specs.Opening.{Opening}
+use Rattle.cn_net.specs.Sessions.{session_ends}
 use Rattle.cn_net.specs.Stable.{Assignment, IsStable}
 use Rattle.cn_record.specs.Recorded.{IsRecorded, RecordedOpening}
 use Rattle.cn_record.specs.Said.{said_by}
 use Rattle.cn_core.specs.declared.event.Event.{Event}
 use Rattle.cn_core.specs.declared.event.Step.{Step}
 use Rattle.cn_core.specs.declared.session.Rib.{Rib}
-use Rattle.cn_core.specs.declared.session.Session.{Session}
 use Rattle.cn_core.specs.Machine.{came_at, can, IsRun, state}
-use Rattle.cn_core.specs.Start.{receivers}
+use Rattle.cn_core.specs.Start.{ends_of}
 use Rattle.cn_core.specs.Order.{IsQuiet, first_event, standing}
 use Rattle.cn_core.specs.State.{CoreState, apply_all, rib}
 
 -- what each device holds for each prefix
 abbrev pub held_in : CoreState → Assignment
 held_in s d p = fin.get (rib s d).best p
-
-abbrev pub ends_of : List Session → List (DeviceId × DeviceId)
-ends_of xs = map (λ x. (x.from, x.to)) xs
-
--- the directions of the links whose receiver is emulated, by (from, to)
-unfoldable pub links_into : Opening → List (DeviceId × DeviceId)
-links_into o = flat_map (λ a. map (λ b. (a, b)) (receivers o a)) (device_ids o.net)
 
 -- no step changes the network, so it is still that of the opening
 abbrev pub NetFollowsJournal : RecordedOpening → CoreState → Type 0
@@ -62,7 +53,7 @@ SpeakersSay r s =
 -- what every step keeps
 pub record IsKept (r : RecordedOpening) (s : CoreState) : Type 0 where
   pub net : NetFollowsJournal r s
-  pub ends : ends_of s.sessions ≡ links_into r.opening
+  pub ends : ends_of s.sessions ≡ session_ends r.opening.net r.opening.emulated
   pub ribs : length s.ribs ≡ length r.opening.net.devices
   pub transit : MailBringsSent s
   pub few : All (λ x. length x.mail ≤ 64) s.sessions

@@ -8,12 +8,14 @@ use Rattle.cn_base.specs.declared.route.Attributes.{Attributes}
 use Rattle.cn_base.specs.declared.route.Choice.{Choice}
 use Rattle.cn_rib.specs.PrefixSet as set
 use Rattle.cn_net.specs.Network.{Network}
+use Rattle.cn_net.specs.declared.sessions.SessionEnds.{SessionEnds}
 use Rattle.cn_core.specs.declared.message.Message.{Message}
 use Rattle.cn_core.specs.declared.owed.Due.{Due}
 use Rattle.cn_core.specs.declared.owed.Due.TheVariants.{Nothing, Withdrawal, Announcement}
 use Rattle.cn_core.specs.declared.owed.Owed.{Owed}
 use Rattle.cn_core.specs.declared.session.Session.{Session}
 use Rattle.cn_core.specs.Owed.{LocRib, OwedMap, offered_attributes, owed, owed_by, unless_sent}
+use Rattle.cn_core.specs.Start.{ends_of}
 use Rattle.cn_core.specs.State.{CoreState, prefix_of}
 use Rattle.cn_core.specs.Whole.{IsWhole}
 
@@ -132,7 +134,9 @@ abbrev pub without_message : Owed → Option Message → Owed
 without_message x None = x
 without_message x (Some m) = only_due x (prefix_of m) Nothing
 
--- what the engine keeps: the order of the sessions, and the lists of what each owes
-pub record IsRight (s : CoreState) (lists : List Owed) : Type 0 where
+-- what the engine keeps: the order of the sessions, the index of them, and the lists of what each
+-- owes
+pub record IsRight (s : CoreState) (index : List SessionEnds) (lists : List Owed) : Type 0 where
   pub whole : IsWhole s
+  pub indexed : index ≡ ends_of s.sessions
   pub listed : AreListed s lists

@@ -1,7 +1,7 @@
 -- The start of the core: nothing was sent, the own prefixes of each emulated device are dirty, and
 -- each speaker holds what it says.
 use Rattle.std.specs.Prelude.{List, [], Option, Some, None, option_map, map, if◌then◌else◌, unwrap_or}
-use Rattle.std.specs.List.{filter, flat_map, fold}
+use Rattle.std.specs.List.{filter, fold}
 use Rattle.std.specs.FinMap.{FinMap}
 use Rattle.std.specs.FinMap as fin
 use Rattle.cn_base.specs.Cidr.{Cidr}
@@ -10,8 +10,10 @@ use Rattle.cn_base.specs.declared.ids.DeviceId.{DeviceId}
 use Rattle.cn_base.specs.declared.route.Choice.{Choice}
 use Rattle.cn_rib.specs.PrefixSet as set
 use Rattle.cn_net.specs.Islands.{holds_device}
-use Rattle.cn_net.specs.Network.{Network, device_ids, device_of, peers_of, same_device}
+use Rattle.cn_net.specs.Network.{Network, device_ids, device_of, same_device}
 use Rattle.cn_net.specs.Opening.{Opening}
+use Rattle.cn_net.specs.Sessions.{session_ends}
+use Rattle.cn_net.specs.declared.sessions.SessionEnds.{SessionEnds}
 use Rattle.cn_record.specs.Recorded.{RecordedOpening}
 use Rattle.cn_record.specs.Said.{said_by}
 use Rattle.cn_record.specs.declared.saved.Row.{Row}
@@ -21,13 +23,17 @@ use Rattle.cn_core.specs.State.{CoreState, empty_session}
 
 -- ---- sessions
 
--- the emulated devices to which a is linked, in ascending order
-abbrev pub receivers : Opening → DeviceId → List DeviceId
-receivers o a = filter (holds_device o.emulated) (peers_of o.net a)
+-- the ends of a session
+abbrev pub ends : Session → SessionEnds
+ends x = record { from = x.from; to = x.to }
+
+-- the ends of sessions, in their order
+abbrev pub ends_of : List Session → List SessionEnds
+ends_of xs = map ends xs
 
 -- a session for each direction of a link whose receiver is emulated, by (from, to)
 unfoldable pub first_sessions : Opening → List Session
-first_sessions o = flat_map (λ a. map (empty_session a) (receivers o a)) (device_ids o.net)
+first_sessions o = map (λ e. empty_session e.from e.to) (session_ends o.net o.emulated)
 
 -- ---- what an emulated device has
 

@@ -1,16 +1,18 @@
 //! What a device decides for a prefix (RFC 4271, 9.1.2): its own route, or else the best of those
-//! that came in and that it accepts. `learnt` goes through the neighbours and keeps the best so far
-//! beside its rank, and `cn_decide` compares; so one path is copied and not each.
+//! that came in and that it accepts. `learnt` goes through the sessions into the device and keeps
+//! the best so far beside its rank, and `cn_decide` compares; so one path is copied and not each.
 
 ghost use Rattle.std.specs.Prelude.{◌≡◌, IfOk, None, Some, option_map};
-ghost use Rattle.std.specs.List.{fold};
+ghost use Rattle.std.specs.List.{filter, find, fold};
 ghost use Rattle.cn_decide.specs.Decide.{better, with_rank};
 ghost use Rattle.cn_net.specs.Candidates.{best_of, rank_of, usable};
-ghost use Rattle.cn_net.specs.Network.{peers_of};
-ghost use Rattle.cn_core.specs.Learnt.{choice_with, learnt_choice};
+ghost use Rattle.cn_net.specs.Network.{device_ids};
+ghost use Rattle.cn_core.specs.Learnt.{choice_with, has_session, learnt_choice};
 ghost use Rattle.cn_core.specs.Machine.{came_at};
+ghost use Rattle.cn_core.specs.State.{is_session};
 
 use crate::engine::Engine;
+use crate::session::Session;
 use cn_base::{AsPath, Attributes, Choice, DeviceId, Prefix, Rank};
 use cn_decide::{Ranked, better, rank_with};
 use cn_net::Net;
@@ -24,20 +26,23 @@ fn rank(net: &Net, from: DeviceId, attributes: &Attributes) -> Rank
 }
 
 impl Engine {
-    // The better of the best so far and of what came in from one more device, if that is accepted.
+    // The better of the best so far and of what came in over one more session, if that is accepted.
     fn better_candidate<'a>(
         &'a self,
         device: DeviceId,
         prefix: &Prefix,
-        from: DeviceId,
+        session: &'a Session,
         best: Option<Ranked<(DeviceId, &'a Attributes)>>,
     ) -> Option<Ranked<(DeviceId, &'a Attributes)>>
-        ensures { learnt_choice result
+        requires there { find (is_session session.now.from device) self.now.sessions
+            ≡ Some session.now }
+        ensures { let from = session.now.from in learnt_choice result
             ≡ better (learnt_choice best.entry)
             (option_map (with_rank (rank_of self.now.net))
             (usable self.now.net device from (came_at self.now device prefix.now from))) }
     {
-        let attributes = match self.came(from, device, prefix) {
+        let from = session.from;
+        let attributes = match session.came.get(prefix) {
             Some(attributes) => attributes,
             None => return best,
         };
@@ -58,11 +63,13 @@ impl Engine {
             ≡ fold (λ best a. better best
             (option_map (with_rank (rank_of self.now.net))
             (usable self.now.net device a (came_at self.now device prefix.now a)))) None
-            (peers_of self.now.net device) }
+            (filter (has_session self.now device) (device_ids self.now.net)) }
     {
+        let index = &self.index;
         let mut best = None;
-        for neighbour in self.net.neighbours(device) {
-            best = self.better_candidate(device, prefix, neighbour.device, best);
+        for place in index.into(device) {
+            let session = &self.sessions[*place as usize];
+            best = self.better_candidate(device, prefix, session, best);
         }
         best
     }

@@ -1,8 +1,11 @@
 //! The state behind a core: the network, its sessions, and what its devices hold.
+//!
+//! A session is found by its place: the index of the sessions has the places of those from a
+//! device, of those into a device, and of the one between two devices. It never changes, since no
+//! event changes which sessions there are.
 
 ghost use Rattle.std.specs.Prelude.{◌≡◌, ◌<◌, ◌&&◌, MatchOption, OnOk, OnErr, IsTrue, length, nat_lt, option_copied, slice_index_or};
 ghost use Rattle.std.specs.List.{find};
-ghost use Rattle.std.specs.FinMap as fin;
 ghost use Rattle.cn_net.specs.Network.{IsDevice};
 ghost use Rattle.cn_rib.specs.PrefixSet as set;
 ghost use Rattle.cn_core.specs.Machine.{after_event, can, decide, receive, send};
@@ -14,25 +17,27 @@ ghost use Rattle.cn_core.specs.declared.session.Session.{Session};
 use crate::event::Event;
 use crate::owed::{Owed, decide, message, send};
 use crate::session::{Rib, Session, receive};
-use cn_base::{Attributes, DeviceId, Prefix};
-use cn_net::Net;
+use cn_base::{DeviceId, Prefix};
+use cn_net::{Net, SessionIndex};
 use std::alloc::{AllocError, Global};
 use std::marker::Model;
 
-/// The network, the sessions by `(from, to)`, and what each device holds, by its number. Beside
-/// these what each session owes, by its place, is kept.
+/// The network, the sessions by `(from, to)` with an index of their places, and what each device
+/// holds, by its number. Beside these what each session owes, by its place, is kept.
 #[derive(Drop)]
 pub struct Engine {
     pub net: Net,
+    /// The sessions of the emulation (`session_ends`), at the places where they stand here.
+    pub index: SessionIndex,
     pub sessions: Vec<Session>,
     pub ribs: Vec<Rib>,
     pub owed: Vec<Owed>,
 }
 
 impl Model for Engine {
-    ghost use Rattle.cn_core.specs.State.{CoreState};
     ghost use Rattle.cn_core.specs.Codes.{state_code};
     ghost use Rattle.cn_core.specs.OwedLists.{IsRight};
+    ghost use Rattle.cn_core.specs.State.{CoreState};
 
     ghost Value = { CoreState };
 
@@ -42,22 +47,17 @@ impl Model for Engine {
 
     ghost invariant = { λ t.
         IsRight (record { net = t.net; sessions = t.sessions.items; ribs = t.ribs.items })
-        t.owed.items };
+        t.index t.owed.items };
 }
 
 impl Engine {
-    /// The place of a session, found by halving.
+    /// The place of a session, found among those of its sender.
     pub fn place(&self, from: DeviceId, to: DeviceId) -> Option<usize>
         ensures { MatchOption result (IsNowhere from to self.now.sessions)
             (λ i. IsPlaceOf from to self.now.sessions i) }
     {
-        match self
-            .sessions
-            .binary_search_by_key(&(from, to), |x| (x.from, x.to))
-        {
-            Ok(place) => Some(place),
-            Err(_) => None,
-        }
+        self.index.valid();
+        self.index.place(from, to)
     }
 
     fn session(&self, from: DeviceId, to: DeviceId) -> Option<&Session>
@@ -65,17 +65,6 @@ impl Engine {
     {
         match self.place(from, to) {
             Some(at) => Some(&self.sessions[at]),
-            None => None,
-        }
-    }
-
-    /// What came in over a session for a prefix.
-    #[tactic(auto, unfolding(crate::specs::State::session))]
-    pub fn came(&self, from: DeviceId, to: DeviceId, prefix: &Prefix) -> Option<&Attributes>
-        ensures { option_copied result ≡ fin.get (session self.now from to).came prefix.now }
-    {
-        match self.session(from, to) {
-            Some(session) => session.came.get(prefix),
             None => None,
         }
     }

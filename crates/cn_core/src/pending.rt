@@ -12,6 +12,7 @@ use crate::engine::Engine;
 use crate::event::Event;
 use crate::session::Session;
 use cn_base::{DeviceId, Prefix, Standing};
+use std::ops::Range;
 
 impl Engine {
     // The first session with mail.
@@ -26,8 +27,7 @@ impl Engine {
     pub fn places_from(&self, device: DeviceId) -> (usize, usize)
         ensures { ArePlacesOf device self.now.sessions result.0 result.1 }
     {
-        let end = self.sessions.partition_point(|x| x.from <= device);
-        let start = self.sessions[..end].partition_point(|x| x.from < device);
+        let Range { start, end } = self.index.from(device);
         (start, end)
     }
 

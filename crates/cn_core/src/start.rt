@@ -1,13 +1,10 @@
 //! The state at the start: nothing was sent, the own prefixes of each emulated device are dirty,
 //! and each speaker holds what it says.
 
-ghost use Rattle.std.specs.Prelude.{◌≡◌, ◌++◌, ◌∷◌, ◌<◌, [], All, IfErr, IfOk, OnOk, length, map, option_copied};
-ghost use Rattle.std.specs.List.{filter};
-ghost use Rattle.cn_net.specs.Islands.{holds_device};
-ghost use Rattle.cn_net.specs.Network.{peers_of};
+ghost use Rattle.std.specs.Prelude.{◌≡◌, ◌<◌, All, IfErr, IfOk, OnOk, length, map, option_copied};
 ghost use Rattle.cn_record.specs.Rows.{AscendsByPair};
 ghost use Rattle.cn_core.specs.OwedLists.{AreListed};
-ghost use Rattle.cn_core.specs.Start.{emulated_rib, first_rib, first_ribs, first_sessions, rows_of, said_routes, speaker_rib, start, with_choice};
+ghost use Rattle.cn_core.specs.Start.{emulated_rib, first_rib, first_ribs, rows_of, said_routes, speaker_rib, start, with_choice};
 ghost use Rattle.cn_core.specs.State.{empty_session};
 ghost use Rattle.cn_rib.specs.PrefixSet as set;
 
@@ -17,7 +14,7 @@ use crate::session::{Rib, Session};
 use cn_base::{Choice, DeviceId, Prefix};
 use cn_lists::part_at;
 use cn_mail::Mailbox;
-use cn_net::{Certified, DeviceSet, Net, Own};
+use cn_net::{Certified, DeviceSet, Net, Own, SessionIndex};
 use cn_record::{Recorded, Row};
 use cn_rib::{PrefixMap, PrefixSet};
 use std::alloc::{AllocError, Global};
@@ -34,57 +31,16 @@ fn session(alloc: Global, from: DeviceId, to: DeviceId) -> Result<Session, Alloc
     })
 }
 
-// The session to one peer is added, if the peer is emulated.
-fn add_session(
-    alloc: Global,
-    sessions: &mut Vec<Session>,
-    emulated: &DeviceSet,
-    from: DeviceId,
-    to: DeviceId,
-) -> Result<(), AllocError>
-    ensures { OnOk result
-        (sessions.new.items
-        ≡ sessions.old.items
-        ++ map (empty_session from) (filter (holds_device emulated.now) (to ∷ []))) }
+// An empty session for each that is kept, by the places of the index.
+fn sessions(alloc: Global, index: &SessionIndex) -> Result<Vec<Session>, AllocError>
+    ensures { IfOk result (λ sessions.
+        sessions.items ≡ map (λ e. empty_session e.from e.to) index.now) }
 {
-    if emulated.holds(to) {
-        sessions.push(session(alloc, from, to)?)?;
-    }
-    Ok(())
-}
-
-// The sessions of one sender are added.
-fn add_sessions(
-    alloc: Global,
-    sessions: &mut Vec<Session>,
-    net: &Net,
-    emulated: &DeviceSet,
-    from: DeviceId,
-) -> Result<(), AllocError>
-    ensures { OnOk result
-        (sessions.new.items
-        ≡ sessions.old.items
-        ++ map (empty_session from) (filter (holds_device emulated.now) (peers_of net.now from))) }
-{
-    for neighbour in net.neighbours(from) {
-        add_session(alloc, sessions, emulated, from, neighbour.device)?;
-    }
-    Ok(())
-}
-
-fn sessions(alloc: Global, certified: &Certified) -> Result<Vec<Session>, AllocError>
-    ensures { IfOk result (λ sessions. sessions.items ≡ first_sessions certified.now) }
-{
-    let net = certified.net();
-    let mut sessions = Vec::new(alloc);
-    for from in 0..net.count() {
-        add_sessions(
-            alloc,
-            &mut sessions,
-            net,
-            certified.emulated(),
-            DeviceId(from),
-        )?;
+    let mut sessions = Vec::with_capacity(alloc, index.len())?;
+    for place in 0..index.len() {
+        if let Some(ends) = index.ends(place) {
+            sessions.push(session(alloc, ends.from, ends.to)?)?;
+        }
     }
     Ok(sessions)
 }
@@ -218,14 +174,15 @@ pub fn open(alloc: Global, recorded: Recorded) -> Result<Opened, Recorded>
     ensures emulated { IfOk result (λ made. made.emulated ≡ recorded.opening.emulated) }
     ensures err { IfErr result (λ back. back ≡ recorded) }
 {
-    let (Ok(sessions), Ok(ribs)) = (
-        sessions(alloc, recorded.certified()),
-        ribs(alloc, &recorded),
-    ) else {
+    let certified = recorded.certified();
+    let net = certified.net();
+    let Ok(index) = SessionIndex::make(alloc, net, certified.emulated()) else {
+        return Err(recorded);
+    };
+    let (Ok(sessions), Ok(ribs)) = (sessions(alloc, &index), ribs(alloc, &recorded)) else {
         return Err(recorded);
     };
     recorded.valid();
-    let net = recorded.certified().net();
     let Ok(owed) = lists(alloc, net, &sessions, &ribs) else {
         return Err(recorded);
     };
@@ -234,6 +191,7 @@ pub fn open(alloc: Global, recorded: Recorded) -> Result<Opened, Recorded>
     Ok(Opened {
         engine: Engine {
             net,
+            index,
             sessions,
             ribs,
             owed,

@@ -1,5 +1,5 @@
 -- Other crates may cite this: a device that has no own route decides among what came in from its
--- neighbours alone, by ranks that stand beside the choices.
+-- neighbours alone, or from those that sent something, by ranks that stand beside the choices.
 use Rattle.std.proofs.Common.{◌≡◌, Bool, true, false, cond, List, [], ◌∷◌, Option, Some, None, option_map, refl, sym, ap, ◌∙◌}
 use Rattle.std.specs.List.{filter, fold}
 use Rattle.std.proofs.lemmas.List.Folds.{fold_stays}
@@ -76,33 +76,44 @@ module _ (net : Network) (came : DeviceId → Option Route) (d : DeviceId) (p : 
       sym (ap (λ z. fold step z (device_ids net)) (own_choice_is net d p (Some o) (sym e))
       ∙ fold_stays step (Some (own_with o)) (λ a. own_stays net d a (came a) o) (device_ids net))
 
-  nothing_unlinked : ((a : DeviceId) → is_linked net d a ≡ false → came a ≡ None)
-      → (x : Option Choice) (a : DeviceId) → is_linked net d a ≡ false → step x a ≡ x
+  nothing_from : (t : DeviceId → Bool) → ((a : DeviceId) → t a ≡ false → came a ≡ None)
+      → (x : Option Choice) (a : DeviceId) → t a ≡ false → step x a ≡ x
   unfolding step
-  nothing_unlinked none x a l =
+  nothing_from t none x a l =
       ap (λ z. better_of net x (usable net d a z)) (none a l)
       ∙ ap (better_of net x) (usable-none net d a) ∙ better_by_none (rank_of net) x
 
-  ranked_learnt : ((a : DeviceId) → is_linked net d a ≡ false → came a ≡ None)
+  ranked_learnt : (t : DeviceId → Bool) → ((a : DeviceId) → t a ≡ false → came a ≡ None)
       → None ≡ own_origin net d p
       → fold (λ best a. better best
       (option_map (with_rank (rank_of net)) (usable net d a (came a))))
-      None (peers_of net d)
+      None (filter t (device_ids net))
       ≡ option_map (with_rank (rank_of net)) (best_of net came d p)
-  unfolding best_of peers_of step
-  ranked_learnt none e =
-      fold-with_rank (rank_of net) (λ a. usable net d a (came a)) None (peers_of net d)
+  unfolding best_of step
+  ranked_learnt t none e =
+      fold-with_rank (rank_of net) (λ a. usable net d a (came a)) None (filter t (device_ids net))
       ∙ ap (option_map (with_rank (rank_of net)))
-      (fold_filter step (is_linked net d) (nothing_unlinked none) None (device_ids net)
+      (fold_filter step t (nothing_from t none) None (device_ids net)
       ∙ ap (λ z. fold step z (device_ids net)) (sym (own_choice_is net d p None (sym e))))
 
-  -- without one it is the best of what came in from the neighbours, which stands beside its rank
+  -- without one it is the best of what came in from devices of which a test knows, and from the
+  -- others nothing came; the best so far stands beside its rank
+  pub learnt_among : (t : DeviceId → Bool) → ((a : DeviceId) → t a ≡ false → came a ≡ None)
+      → None ≡ own_origin net d p → (best : Option (Ranked Choice))
+      → best
+      ≡ fold (λ x a. better x (option_map (with_rank (rank_of net)) (usable net d a (came a)))) None
+      (filter t (device_ids net))
+      → option_map (λ (r : Ranked Choice). r.item) best ≡ best_of net came d p
+  learnt_among t none e best is =
+      ap (option_map (λ (r : Ranked Choice). r.item)) (is ∙ ranked_learnt t none e)
+      ∙ item-with_rank (rank_of net) (best_of net came d p)
+
+  -- the same of its neighbours
   pub learnt_decided : ((a : DeviceId) → is_linked net d a ≡ false → came a ≡ None)
       → None ≡ own_origin net d p → (best : Option (Ranked Choice))
       → best
       ≡ fold (λ x a. better x (option_map (with_rank (rank_of net)) (usable net d a (came a)))) None
       (peers_of net d)
       → option_map (λ (r : Ranked Choice). r.item) best ≡ best_of net came d p
-  learnt_decided none e best is =
-      ap (option_map (λ (r : Ranked Choice). r.item)) (is ∙ ranked_learnt none e)
-      ∙ item-with_rank (rank_of net) (best_of net came d p)
+  unfolding peers_of
+  learnt_decided none e best is = learnt_among (is_linked net d) none e best is

@@ -37,6 +37,7 @@ pub mod Restricted
 pub mod Rounds
 pub mod SameEnds
 pub mod Seen
+pub mod Senders
 pub mod SessionCount
 pub mod SessionOrder
 pub mod Starts

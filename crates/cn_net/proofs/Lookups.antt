@@ -27,7 +27,8 @@ module _ (of : SessionEnds → DeviceId) (ends : List SessionEnds) (d : DeviceId
   abbrev test : Option SessionEnds → Bool
   test o = unwrap_or (option_map (λ x. same_device (of x) d) o) false
 
-  end_is : test (slice_get ends k) ≡ true → (k < length ends) × (of (get_or ends k e) ≡ d)
+  -- where the test passes, there is such a session, and that is its end
+  pub end_is : test (slice_get ends k) ≡ true → (k < length ends) × (of (get_or ends k e) ≡ d)
   end_is t = elim (slice_get_cases ends k).1 [
     | inl (x, lt, is, at) ↦ (
       lt,
@@ -37,7 +38,8 @@ module _ (of : SessionEnds → DeviceId) (ends : List SessionEnds) (d : DeviceId
     | inr (le, is) ↦ absurd (false≢true (sym (ap test is) ∙ t))
   ]
 
-  end_holds : k < length ends → of (get_or ends k e) ≡ d → test (slice_get ends k) ≡ true
+  -- and the other way
+  pub end_holds : k < length ends → of (get_or ends k e) ≡ d → test (slice_get ends k) ≡ true
   end_holds lt is =
       ap test (slice_get-get_or ends k e lt) ∙ (same_device-Decides (of (get_or ends k e)) d).1 is
 

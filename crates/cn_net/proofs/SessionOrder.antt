@@ -1,11 +1,12 @@
--- The sessions ascend by (from, to), their ends are devices, and there are few.
-use Rattle.std.proofs.Common.{◌≡◌, ℕ, suc, ◌+◌, ◌*◌, ◌^◌, ◌<◌, ◌≤◌, Bool, List, [], ◌∷◌, ◌++◌, get_or, length, map, Less, inl, inr, ap, sym, subst, arith, length-append}
+-- Other crates may cite this: the sessions ascend by (from, to), their ends are devices, the
+-- receivers emulated, and there are few.
+use Rattle.std.proofs.Common.{◌≡◌, ℕ, suc, ◌+◌, ◌*◌, ◌^◌, ◌<◌, ◌≤◌, Bool, true, List, [], ◌∷◌, ◌++◌, get_or, length, map, Less, inl, inr, ap, sym, subst, arith, length-append}
 use Rattle.std.specs.List.{All, AllPairs, filter, flat_map}
 use Rattle.std.specs.List.Sorted.{IsNonDecreasingBy}
 use Rattle.std.proofs.lemmas.Bool.{cases_lt}
 use Rattle.std.proofs.lemmas.Bool.Decides.{nat_tests}
 use Rattle.std.proofs.lemmas.List.{length-map}
-use Rattle.std.proofs.lemmas.List.Elements.{All-append, All-filter, All-head, All-map, All-nil, All-tail}
+use Rattle.std.proofs.lemmas.List.Elements.{All-append, All-filter, All-head, All-map, All-nil, All-tail, filter_passes}
 use Rattle.std.proofs.lemmas.List.Kept.{AllPairs-cons, AllPairs-filter}
 use Rattle.std.proofs.lemmas.List.Sums.{count_by-le-length, length-filter}
 use Rattle.cn_base.specs.declared.ids.DeviceId.{DeviceId}
@@ -61,6 +62,7 @@ lesser_sender x y lt = grind (arith, nat_tests)
 not_after : (x y : SessionEnds) → by_sender x y ≡ Less → x.from.0 ≤ y.from.0
 not_after x y h = grind (arith, nat_tests)
 
+-- the senders ascend
 pub senders_rise : (xs : List SessionEnds) → Ascend xs → IsNonDecreasingBy (λ e. e.from.0) xs
 senders_rise xs up i j d le within =
     elim (cases_lt i j) [
@@ -134,24 +136,36 @@ module _ (net : Network) (emulated : List DeviceId) where
   unfolding session_ends
   ends_ascend = rows_ascend (device_ids net) (devices_ascend net)
 
+  -- each session comes from a device
   pub senders_within : All (λ (e : SessionEnds). IsDevice net e.from) (session_ends net emulated)
   unfolding session_ends
   senders_within = rows_from (device_ids net) (IsDevice net) (only_devices net)
 
-  rows_within : (ds : List DeviceId)
-      → All (λ (e : SessionEnds). IsDevice net e.to) (flat_map from_device ds)
-  rows_within [] = All-nil (λ (e : SessionEnds). IsDevice net e.to)
-  rows_within (a ∷ ds) =
-      All-append (λ (e : SessionEnds). IsDevice net e.to) (from_device a)
-      (flat_map from_device ds)
-      (All-map (λ (e : SessionEnds). IsDevice net e.to) (λ b. record { from = a; to = b })
-      (receivers_of net emulated a)
-      (All-filter (holds_device emulated) (IsDevice net) (peers_of net a) (peers_within a)))
-      (rows_within ds)
+  -- what holds of the receivers of each device holds of all receivers
+  rows_to : (P : DeviceId → Type 0) → ((a : DeviceId) → All P (receivers_of net emulated a))
+      → (ds : List DeviceId) → All (λ (e : SessionEnds). P e.to) (flat_map from_device ds)
+  rows_to P each [] = All-nil (λ (e : SessionEnds). P e.to)
+  rows_to P each (a ∷ ds) =
+      All-append (λ (e : SessionEnds). P e.to) (from_device a) (flat_map from_device ds)
+      (All-map (λ (e : SessionEnds). P e.to) (λ b. record { from = a; to = b })
+      (receivers_of net emulated a) (each a))
+      (rows_to P each ds)
 
+  -- each session leads to a device
   pub receivers_within : All (λ (e : SessionEnds). IsDevice net e.to) (session_ends net emulated)
   unfolding session_ends
-  receivers_within = rows_within (device_ids net)
+  receivers_within =
+      rows_to (IsDevice net) (λ a.
+      All-filter (holds_device emulated) (IsDevice net) (peers_of net a) (peers_within a))
+      (device_ids net)
+
+  -- each session leads to an emulated device
+  pub receivers_emulated : All (λ (e : SessionEnds). holds_device emulated e.to ≡ true)
+      (session_ends net emulated)
+  unfolding session_ends
+  receivers_emulated =
+      rows_to (λ b. holds_device emulated b ≡ true)
+      (λ a. filter_passes (holds_device emulated) (peers_of net a)) (device_ids net)
 
   few_rows : length net.devices ≤ 4096 → (ds : List DeviceId)
       → length (flat_map from_device ds) ≤ length ds * 4096
@@ -161,6 +175,7 @@ module _ (net : Network) (emulated : List DeviceId) where
       let rest = few_rows most ds in
       omega (arith, length-append (from_device a) (flat_map from_device ds))
 
+  -- there are fewer sessions than a place can tell
   pub few_sessions : length net.devices ≤ 4096 → length (session_ends net emulated) < 2 ^ 32
   unfolding session_ends
   few_sessions most =
@@ -170,6 +185,7 @@ module _ (net : Network) (emulated : List DeviceId) where
 
 -- ---- the whole index
 
+-- an index of these sessions is one
 pub index_made : (net : Network) (emulated : List DeviceId) (ends : List SessionEnds)
     (starts : List ℕ) (into : List (List ℕ)) (count : ℕ)
     → ends ≡ session_ends net emulated → count ≡ length net.devices

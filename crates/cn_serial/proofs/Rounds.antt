@@ -9,6 +9,7 @@ use Rattle.cn_base.specs.declared.ids.DeviceId.{DeviceId}
 use Rattle.cn_rib.specs.PrefixSet as prefixes
 use Rattle.cn_rib.proofs.Keyed.{least_of_empty, least_there}
 use Rattle.cn_net.specs.Network.{device_ids, same_device}
+use Rattle.cn_net.specs.Sessions.{Ascend}
 use Rattle.cn_record.specs.Recorded.{RecordedOpening}
 use Rattle.cn_core.specs.declared.event.Event.{Event}
 use Rattle.cn_core.specs.declared.event.Event.TheVariants.{Decide}
@@ -20,18 +21,19 @@ use Rattle.cn_core.specs.Machine.{IsRunFrom, can, state}
 use Rattle.cn_core.specs.Order.{IsQuiet, first_pending, has_mail, is_pending, owes_from, receive_over, send_over}
 use Rattle.cn_core.specs.Play.{AreWork, after}
 use Rattle.cn_core.specs.Owed.{owed_by, owes}
+use Rattle.cn_core.specs.Start.{ends_of}
 use Rattle.cn_core.specs.State.{CoreState, rib, session}
 use Rattle.cn_core.proofs.Kept.{kept_run, run_holds}
 use Rattle.cn_core.proofs.Owes.{owes-empty}
 use Rattle.cn_core.proofs.Play.{after_append, run_append}
-use Rattle.cn_core.proofs.Searches.{IsApart, apart, found_apart, found_one, found_passes, none_passes, nothing_found, session_found}
+use Rattle.cn_core.proofs.Searches.{apart, found_apart, found_one, found_passes, none_passes, nothing_found, session_found}
 use Rattle.cn_core.proofs.Stands.{quiet_stands, stands_quiet}
 use Rattle.cn_serial.specs.Rounds.{AreRounds, FollowsOut, IsQuietWork, IsRound, Round, RoundLaw, decision_of, exchange_of, has_dirty, next_decision, next_exchange, steps_of, steps_of_all}
 use Rattle.cn_serial.proofs.SerialPlay.{follows_run, follows_work, one_of}
 
 -- ---- what comes next is enabled
 
-receive_enabled : (s : CoreState) (x : Session) → IsApart s.sessions
+receive_enabled : (s : CoreState) (x : Session) → Ascend (ends_of s.sessions)
     → find has_mail s.sessions ≡ Some x → IsTrue (can s (receive_over x))
 receive_enabled s x apart f =
     ap (λ (y : Session). nat_lt 0 (length y.mail)) (session_found has_mail s x apart f)
@@ -40,8 +42,9 @@ receive_enabled s x apart f =
 room_without_mail : (l : ℕ) → nat_lt 0 l ≡ false → nat_lt l 64 ≡ true
 room_without_mail l e = grind (arith, nat_tests)
 
-send_enabled : (s : CoreState) (x : Session) → IsApart s.sessions → find has_mail s.sessions ≡ None
-    → find (owes s) s.sessions ≡ Some x → IsTrue (can s (send_over x))
+send_enabled : (s : CoreState) (x : Session) → Ascend (ends_of s.sessions)
+    → find has_mail s.sessions ≡ None → find (owes s) s.sessions ≡ Some x
+    → IsTrue (can s (send_over x))
 send_enabled s x apart none e =
     let at = session_found (owes s) s x apart e in
     let empty =
@@ -53,8 +56,9 @@ send_enabled s x apart none e =
     ∙ ap (λ b. b && nat_lt (length x.mail) 64) (found_passes (owes s) s.sessions x e)
     ∙ room_without_mail (length x.mail) empty
 
-exchange_enabled : (s : CoreState) (e : Event) → IsApart s.sessions → (o p : Option Session)
-    → find has_mail s.sessions ≡ o → find (owes s) s.sessions ≡ p → exchange_of o p ≡ Some e
+exchange_enabled : (s : CoreState) (e : Event) → Ascend (ends_of s.sessions)
+    → (o p : Option Session) → find has_mail s.sessions ≡ o → find (owes s) s.sessions ≡ p
+    → exchange_of o p ≡ Some e
     → IsTrue (can s e)
 exchange_enabled s e apart (Some x) p f g is =
     let same : receive_over x ≡ e = cc in

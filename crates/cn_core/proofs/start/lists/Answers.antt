@@ -3,7 +3,7 @@ use Rattle.cn_core.specs.declared.session.Rib.{Rib}
 use Rattle.cn_core.specs.declared.session.Session.{Session}
 use Rattle.cn_core.specs.Owed.{owed}
 use Rattle.cn_core.specs.OwedLists.{IsListed}
-use Rattle.cn_core.proofs.Starts.{listed-next}
+use Rattle.cn_core.proofs.ListsMade.{listed-next}
 use Rattle.cn_core.proofs.start.lists.Goals as goal
 
 pub loop-session-preserved : goal.loop-session-preserved

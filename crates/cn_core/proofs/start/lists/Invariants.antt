@@ -1,4 +1,4 @@
-use Rattle.cn_core.proofs.Starts.{AreListedSoFar}
+use Rattle.cn_core.proofs.ListsMade.{AreListedSoFar}
 use Rattle.cn_core.proofs.start.lists.Given as goal
 
 abbrev pub invariant-loop-session : goal.invariant-loop-session

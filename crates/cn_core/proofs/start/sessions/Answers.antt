@@ -1,42 +1,45 @@
-use Rattle.std.proofs.Common.{◌≡◌, ◌-◌, ◌++◌, length, map, sym, ap, ◌∙◌, append-nil, arith}
-use Rattle.std.specs.List.{filter, flat_map}
-use Rattle.cn_net.specs.Islands.{holds_device}
-use Rattle.cn_net.specs.Network.{peers_of}
-use Rattle.cn_core.specs.Start.{first_sessions, receivers}
+use Rattle.std.proofs.Common.{◌≡◌, ◌∙◌, ◌++◌, ◌+◌, ◌∷◌, ◌<◌, [], ℕ, Global, List, None, Vec, inl, inr, length, map, take, ap, sym, arith}
+use Rattle.std.specs.Prelude.{Some, slice_get}
+use Rattle.std.proofs.lemmas.List.{map-append, take_more}
+use Rattle.std.proofs.lemmas.Option.{get_or_from_slice_get, none-some, slice_get_cases}
+use Rattle.cn_net.specs.declared.sessions.SessionEnds.{SessionEnds}
+use Rattle.cn_core.specs.declared.session.Session.{Session}
 use Rattle.cn_core.specs.State.{empty_session}
-use Rattle.cn_core.proofs.Numbers.{all_ids, ids, ids_end, joined_next}
 use Rattle.cn_core.proofs.start.sessions.Goals as goal
+use Rattle.cn_core.proofs.start.sessions.Goals.{in-Some+in_ok-session+in_ok-push, in_default}
 
-pub loop-from-init : goal.loop-from-init
-unfolding first_sessions
-loop-from-init c =
-    let o = c.args.certified.now in
-    let end : c.count-from-end.result ≡ length o.net.devices =
-    c.count-from-end.ensures ∙ ap (λ n. length n.devices) c.net-net.ensures in
-    let all : c.count-from-end.result - 0 ≡ length o.net.devices = omega (arith, end) in
-    ap (λ xs. xs
-    ++ flat_map (λ a. map (empty_session a) (receivers o a)) (ids 0 (c.count-from-end.result - 0)))
-    c.new-sessions.ensures.items
-    ∙ ap (λ n. flat_map (λ a. map (empty_session a) (receivers o a)) (ids 0 n)) all
-    ∙ ap (flat_map (λ a. map (empty_session a) (receivers o a))) (all_ids o.net)
+empty : SessionEnds → Session
+empty e = empty_session e.from e.to
 
-pub loop-from-preserved : goal.loop-from-preserved
-loop-from-preserved c =
-    let o = c.args.certified.now in
-    joined_next (λ a. map (empty_session a) (receivers o a)) c.loop-from.sessions.items
-    c.add_sessions.new.sessions.items c.loop-from.from c.count-from-end.result c.loop-from-test.true
-    (c.in_ok-add_sessions.ensures
-    ∙ (λ i. c.loop-from.sessions.items
-    ++ map (empty_session (record { 0 = c.loop-from.from }))
-    (filter (holds_device (c.emulated.ensures i))
-    (peers_of (c.net-net.ensures i) (record { 0 = c.loop-from.from })))))
-    ∙ c.loop-from.invariant
+-- the session of one more place
+more : (es : List SessionEnds) (i : ℕ) (e : SessionEnds) (old new : List Session) (x : Session)
+    → i < length es → slice_get es i ≡ Some e → old ≡ map empty (take i es) → x ≡ empty e
+    → new ≡ old ++ x ∷ [] → new ≡ map empty (take (i + 1) es)
+more es i e old new x within at so is pushed =
+    pushed
+    ∙ (λ j. so j ++ is j ∷ [])
+    ∙ sym (map-append empty (take i es) (e ∷ []))
+    ∙ ap (λ z. map empty (take i es ++ z ∷ [])) (sym (get_or_from_slice_get es i e e at))
+    ∙ sym (ap (map empty) (take_more es i e within))
 
-pub returns : goal.returns
-returns c =
-    let o = c.args.certified.now in
-    sym (ap
-    (λ xs. c.loop-from.sessions.items ++ flat_map (λ a. map (empty_session a) (receivers o a)) xs)
-    (ids_end c.loop-from.from c.count-from-end.result c.loop-from-test.false)
-    ∙ append-nil c.loop-from.sessions.items)
-    ∙ c.loop-from.invariant
+-- a place that is one has a session
+always : (es : List SessionEnds) (i : ℕ) → i < length es → None ≡ slice_get es i → ⊥
+always es i within none = elim (slice_get_cases es i).1 [
+  | inl (e, lt, is, at) ↦ none-some e (none ∙ is)
+  | inr (le, is) ↦ omega arith
+]
+
+pub loop-place-preserved : goal.loop-place-preserved
+unfolding empty
+loop-place-preserved c =
+    elim c.match-ends.branch [
+      | in-Some+in_ok-session+in_ok-push w ↦
+          ap (λ (v : Vec Session Global). v.items) w.sessions-is
+          ∙ more c.args.index.now c.loop-place.place w.in-Some.ends c.loop-place.sessions.items
+          w.push.new.self.items w.in_ok-session.field-0
+          (omega (arith, c.loop-place-test.true, c.len-place-end.ensures)) (sym w.in-Some.ensures)
+          c.loop-place.invariant w.in_ok-session.ensures w.in_ok-push.ensures.items
+      | in_default w ↦
+          absurd (always c.args.index.now c.loop-place.place
+          (omega (arith, c.loop-place-test.true, c.len-place-end.ensures)) w.in_default.ensures)
+    ]

@@ -37,8 +37,8 @@ decide-requires-clause-listed c =
     subst (λ (s : CoreState). d.0 < length s.ribs) (sym c.self.view_is) c.requires in
     subst (λ (xs : List Session). AreListedFrom nn y.best xs start end os)
     (sym c.deref.ensures.value)
-    (listed_from nn ss rs os c.self.invariant.whole c.self.invariant.listed d start end places y
-    inside c.index_mut-rib.ensures.value)
+    (listed_from nn ss rs c.self.inside.index os c.self.invariant d start end places y inside
+    c.index_mut-rib.ensures.value)
 
 pub invariant_of-self : goal.invariant_of-self
 invariant_of-self c =
@@ -54,8 +54,8 @@ invariant_of-self c =
     c.places_from-start.ensures in
     let inside =
     subst (λ (s : CoreState). d.0 < length s.ribs) (sym c.self.view_is) c.requires in
-    right-decide nn ss rs os c.self.invariant d start end places c.decide.new.rib
-    c.decide.new.lists.items inside
+    right-decide nn ss rs c.self.inside.index os c.self.invariant d start end places
+    c.decide.new.rib c.decide.new.lists.items inside
     (subst (λ (xs : List Session). AreListedFrom nn c.decide.new.rib.best xs start end
     c.decide.new.lists.items) c.deref.ensures.value c.decide.ensures.listed)
     c.decide.ensures.elsewhere

@@ -29,14 +29,13 @@ returns-in_ok-copy-in-Some-learnt c =
       origin = c.in-Some-learnt.best.item.1.now.origin;
     }) in
     ap choice c.in_ok-copy-in-Some-learnt.ensures
-    ∙ learnt_decided s (subst IsWhole c.self.view_is c.self.invariant.whole)
-    c.args.device c.args.prefix.now (c.in_default.ensures ∙ net) (Some c.in-Some-learnt.best)
-    c.in-Some-learnt.ensures
+    ∙ learnt_decided s c.args.device c.args.prefix.now
+    (c.in_default.ensures ∙ net) (Some c.in-Some-learnt.best) c.in-Some-learnt.ensures
 
 pub returns-in-None : goal.returns-in-None
 returns-in-None c =
     let s = c.args.self.now in
     let net =
     ap (λ (t : CoreState). own_origin t.net c.args.device c.args.prefix.now) c.self.view_is in
-    learnt_decided s (subst IsWhole c.self.view_is c.self.invariant.whole)
-    c.args.device c.args.prefix.now (c.in_default.ensures ∙ net) None c.in-None.ensures
+    learnt_decided s c.args.device c.args.prefix.now
+    (c.in_default.ensures ∙ net) None c.in-None.ensures

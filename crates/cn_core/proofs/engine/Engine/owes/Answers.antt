@@ -4,5 +4,5 @@ use Rattle.cn_core.proofs.engine.Engine.owes.Goals as goal
 pub returns : goal.returns
 returns c x =
     owes-listed c.self.inside.net c.self.inside.sessions.items c.self.inside.ribs.items
-    c.self.inside.owed.items c.self.invariant c.args.self.now c.self.view_is c.args.place
-    c.index.result.now c.is_empty.result c.requires c.index.ensures c.is_empty.ensures x
+    c.self.inside.index c.self.inside.owed.items c.self.invariant c.args.self.now c.self.view_is
+    c.args.place c.index.result.now c.is_empty.result c.requires c.index.ensures c.is_empty.ensures x

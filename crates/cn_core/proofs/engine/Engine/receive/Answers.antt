@@ -44,7 +44,7 @@ invariant_of-self c =
     subst (λ (t : CoreState). c.args.to.0 < length t.ribs) (sym c.self.view_is)
     (place_within s c.args.from c.args.to at w c.in-Some.ensures).1 in
     right-receive c.self.inside.net c.self.inside.sessions.items c.self.inside.ribs.items
-    c.self.inside.owed.items c.self.invariant c.receive.result at c.args.to.0
+    c.self.inside.index c.self.inside.owed.items c.self.invariant c.receive.result at c.args.to.0
     c.index_mut.result.now c.receive.new.session c.index_mut-in-Some.result.now c.receive.new.rib
     inside c.index_mut.ensures.value within c.index_mut-in-Some.ensures.value
     c.receive.ensures.session c.receive.ensures.rib c.receive.ensures.err_session

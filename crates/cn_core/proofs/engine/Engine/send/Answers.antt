@@ -71,8 +71,8 @@ invariant_of-self c =
     c.index.result.now c.in-Some.ensures c.index-in-Some.ensures c.index_mut.ensures.value in'
     c.index.ensures in
     right-send c.self.inside.net c.self.inside.sessions.items c.self.inside.ribs.items
-    c.self.inside.owed.items c.self.invariant c.send.result at c.index_mut.result.now
-    c.send.new.session c.index_mut-in-Some.result.now c.send.new.lists
+    c.self.inside.index c.self.inside.owed.items c.self.invariant c.send.result at
+    c.index_mut.result.now c.send.new.session c.index_mut-in-Some.result.now c.send.new.lists
     c.in_ok-message-in-Some.message inside c.index_mut.ensures.value
     c.index_mut-in-Some.ensures.value (c.in_ok-message-in-Some.ensures ∙ ap next_message owes)
     c.send.ensures.session c.send.ensures.lists c.send.ensures.err_session c.send.ensures.err_lists
