@@ -334,43 +334,43 @@ both_on_ok P Q (Err e) p q = tt
 
 module _ (nn : Network) (ss : List Session) (rs : List Rib) (index : List SessionEnds)
     (os : List Owed) (is : IsRight (state_of nn ss rs) index os) {T E : Type 0} (r : Result T E)
-    where
-  -- what is kept is right after a receive, whether or not it could be done
-  pub right-receive : (i b : ℕ) (x nx : Session) (y ny : Rib) → i < length ss
-      → x ≡ get_or ss i x → b < length rs → y ≡ get_or rs b y → OnOk r (nx ≡ received x)
-      → OnOk r (ny ≡ with_all_dirty x.mail y) → OnErr r (nx ≡ x) → OnErr r (ny ≡ y)
-      → IsRight (state_of nn (set ss i nx) (set rs b ny)) index os
-  right-receive i b x nx y ny inside read within read_rib ok_x ok_y err_x err_y =
-      on_either r
-      (λ (e : (nx ≡ received x) × (ny ≡ with_all_dirty x.mail y)).
-      right_received nn ss rs index os is i b x nx y ny inside read within read_rib e.0 e.1)
-      (λ (e : (nx ≡ x) × (ny ≡ y)).
-      subst (λ (t : List Session × List Rib). IsRight (state_of nn t.0 t.1) index os)
-      (λ j. (
-        sym (ap (set ss i) (e.0 ∙ read) ∙ set-get_or ss i x) j,
-        sym (ap (set rs b) (e.1 ∙ read_rib) ∙ set-get_or rs b y) j,
-      )) is)
-      (both_on_ok (nx ≡ received x) (ny ≡ with_all_dirty x.mail y) r ok_x ok_y)
-      (both_on_err (nx ≡ x) (ny ≡ y) r err_x err_y)
+  where
+    -- what is kept is right after a receive, whether or not it could be done
+    pub right-receive : (i b : ℕ) (x nx : Session) (y ny : Rib) → i < length ss
+        → x ≡ get_or ss i x → b < length rs → y ≡ get_or rs b y → OnOk r (nx ≡ received x)
+        → OnOk r (ny ≡ with_all_dirty x.mail y) → OnErr r (nx ≡ x) → OnErr r (ny ≡ y)
+        → IsRight (state_of nn (set ss i nx) (set rs b ny)) index os
+    right-receive i b x nx y ny inside read within read_rib ok_x ok_y err_x err_y =
+        on_either r
+        (λ (e : (nx ≡ received x) × (ny ≡ with_all_dirty x.mail y)).
+        right_received nn ss rs index os is i b x nx y ny inside read within read_rib e.0 e.1)
+        (λ (e : (nx ≡ x) × (ny ≡ y)).
+        subst (λ (t : List Session × List Rib). IsRight (state_of nn t.0 t.1) index os)
+        (λ j. (
+          sym (ap (set ss i) (e.0 ∙ read) ∙ set-get_or ss i x) j,
+          sym (ap (set rs b) (e.1 ∙ read_rib) ∙ set-get_or rs b y) j,
+        )) is)
+        (both_on_ok (nx ≡ received x) (ny ≡ with_all_dirty x.mail y) r ok_x ok_y)
+        (both_on_err (nx ≡ x) (ny ≡ y) r err_x err_y)
 
-  -- and after a send
-  pub right-send : (i : ℕ) (x nx : Session) (y ny : Owed) (o : Option Message) → i < length ss
-      → x ≡ get_or ss i x → y ≡ get_or os i y
-      → o ≡ next_message (owed_by (state_of nn ss rs) x) → OnOk r (nx ≡ put_out_if o x)
-      → OnOk r (ny ≡ without_message y o) → OnErr r (nx ≡ x) → OnErr r (ny ≡ y)
-      → IsRight (state_of nn (set ss i nx) rs) index (set os i ny)
-  right-send i x nx y ny o inside read read_list first ok_x ok_y err_x err_y =
-      on_either r
-      (λ (e : (nx ≡ put_out_if o x) × (ny ≡ without_message y o)).
-      right_sent nn ss rs index os is i x nx y ny o inside read read_list first e.0 e.1)
-      (λ (e : (nx ≡ x) × (ny ≡ y)).
-      subst (λ (t : List Session × List Owed). IsRight (state_of nn t.0 rs) index t.1)
-      (λ j. (
-        sym (ap (set ss i) (e.0 ∙ read) ∙ set-get_or ss i x) j,
-        sym (ap (set os i) (e.1 ∙ read_list) ∙ set-get_or os i y) j,
-      )) is)
-      (both_on_ok (nx ≡ put_out_if o x) (ny ≡ without_message y o) r ok_x ok_y)
-      (both_on_err (nx ≡ x) (ny ≡ y) r err_x err_y)
+    -- and after a send
+    pub right-send : (i : ℕ) (x nx : Session) (y ny : Owed) (o : Option Message) → i < length ss
+        → x ≡ get_or ss i x → y ≡ get_or os i y
+        → o ≡ next_message (owed_by (state_of nn ss rs) x) → OnOk r (nx ≡ put_out_if o x)
+        → OnOk r (ny ≡ without_message y o) → OnErr r (nx ≡ x) → OnErr r (ny ≡ y)
+        → IsRight (state_of nn (set ss i nx) rs) index (set os i ny)
+    right-send i x nx y ny o inside read read_list first ok_x ok_y err_x err_y =
+        on_either r
+        (λ (e : (nx ≡ put_out_if o x) × (ny ≡ without_message y o)).
+        right_sent nn ss rs index os is i x nx y ny o inside read read_list first e.0 e.1)
+        (λ (e : (nx ≡ x) × (ny ≡ y)).
+        subst (λ (t : List Session × List Owed). IsRight (state_of nn t.0 rs) index t.1)
+        (λ j. (
+          sym (ap (set ss i) (e.0 ∙ read) ∙ set-get_or ss i x) j,
+          sym (ap (set os i) (e.1 ∙ read_list) ∙ set-get_or os i y) j,
+        )) is)
+        (both_on_ok (nx ≡ put_out_if o x) (ny ≡ without_message y o) r ok_x ok_y)
+        (both_on_err (nx ≡ x) (ny ≡ y) r err_x err_y)
 
 -- ---- whether a session owes something
 
