@@ -1,124 +1,121 @@
 //! The decision between routes (RFC 4271, 9.1.2.2).
 
-use crate::build::prefix;
-use crate::words::equal;
 use cn_base::{AsPath, Asn, DeviceId, Origin, Route, RouterId};
 use cn_decide::{Candidate, Ranked, better, pick, rank};
+use cn_given::build::{origin, prefix};
+use cn_given::tables::{all_given, number, word};
+use cn_given::words::{compare, same};
 use std::alloc::Global;
 use std::test::Fail;
 
-// A candidate: whether it is learnt, the length of its path, its ORIGIN and its sender.
-type CandidateRow = (bool, u8, Origin, u32);
+// Candidates, and the first place of the least rank. A candidate is learnt or own, and has the
+// length of its path, its ORIGIN and its sender.
+const CASES: &str = "
+# own before learnt
+candidate learnt 1 igp 1
+candidate own 0 incomplete 9
+candidate learnt 1 igp 1
+gives Some(1)
+# the shortest path
+candidate learnt 2 igp 1
+candidate learnt 2 igp 2
+candidate learnt 1 incomplete 9
+gives Some(2)
+# the lowest ORIGIN
+candidate learnt 2 egp 1
+candidate learnt 2 igp 9
+candidate learnt 2 incomplete 1
+gives Some(1)
+# the lowest sender
+candidate learnt 2 egp 3
+candidate learnt 2 egp 4
+candidate learnt 2 egp 2
+gives Some(2)
+# the first of two equal ones
+candidate learnt 2 egp 3
+candidate learnt 2 igp 4
+candidate learnt 2 igp 4
+gives Some(1)
+# the first where all are equal
+candidate learnt 2 igp 4
+candidate learnt 2 igp 4
+candidate learnt 2 igp 4
+gives Some(0)
+# no candidate
+gives None
+";
 
-// A case, candidates, and the first place of the least rank.
-const CASES: &[(&str, &[CandidateRow], Option<usize>)] = &[
-    (
-        "own before learnt",
-        &[
-            (true, 1, Origin::Igp, 1),
-            (false, 0, Origin::Incomplete, 9),
-            (true, 1, Origin::Igp, 1),
-        ],
-        Some(1),
-    ),
-    (
-        "the shortest path",
-        &[
-            (true, 2, Origin::Igp, 1),
-            (true, 2, Origin::Igp, 2),
-            (true, 1, Origin::Incomplete, 9),
-        ],
-        Some(2),
-    ),
-    (
-        "the lowest ORIGIN",
-        &[
-            (true, 2, Origin::Egp, 1),
-            (true, 2, Origin::Igp, 9),
-            (true, 2, Origin::Incomplete, 1),
-        ],
-        Some(1),
-    ),
-    (
-        "the lowest sender",
-        &[
-            (true, 2, Origin::Egp, 3),
-            (true, 2, Origin::Egp, 4),
-            (true, 2, Origin::Egp, 2),
-        ],
-        Some(2),
-    ),
-    (
-        "the first of two equal ones",
-        &[
-            (true, 2, Origin::Egp, 3),
-            (true, 2, Origin::Igp, 4),
-            (true, 2, Origin::Igp, 4),
-        ],
-        Some(1),
-    ),
-    (
-        "the first where all are equal",
-        &[
-            (true, 2, Origin::Igp, 4),
-            (true, 2, Origin::Igp, 4),
-            (true, 2, Origin::Igp, 4),
-        ],
-        Some(0),
-    ),
-    ("no candidate", &[], None),
-];
-
-fn candidate(alloc: Global, row: &CandidateRow) -> Result<Candidate, Fail> {
-    let (learnt, length, origin, sender) = *row;
+// A path of one number, so many times.
+fn path(alloc: Global, length: &str) -> Result<AsPath, Fail> {
+    let length = length.parse::<u8>()?;
     let path = AsPath::empty(alloc).extended(alloc, Asn(64512), length)?;
-    Ok(Candidate {
-        from: learnt.then_some(DeviceId(7)),
-        sender: RouterId(sender),
-        route: Route {
-            prefix: prefix("10.0.0.0/8")?,
-            path: path.ok_or("too long")?,
-            origin,
-        },
+    Ok(path.ok_or("too long")?)
+}
+
+fn route(alloc: Global, length: &str, origin: Origin) -> Result<Route, Fail> {
+    let path = path(alloc, length)?;
+    Ok(Route {
+        prefix: prefix("10.0.0.0/8")?,
+        path,
+        origin,
     })
 }
 
-fn picked(alloc: Global, rows: &[CandidateRow]) -> Result<Option<usize>, Fail> {
+fn candidate(alloc: Global, text: &str) -> Result<Candidate, Fail> {
+    let route = route(alloc, word(text, 1), origin(word(text, 2))?)?;
+    let sender = RouterId(number(word(text, 3))?);
+    let from = (word(text, 0) == "learnt").then_some(DeviceId(7));
+    Ok(Candidate {
+        from,
+        sender,
+        route,
+    })
+}
+
+// The candidates of a case.
+fn candidates(alloc: Global, case: &str) -> Result<Vec<Candidate>, Fail> {
     let mut candidates = Vec::new(alloc);
-    for row in rows {
-        candidates.push(candidate(alloc, row)?)?;
+    for text in all_given(alloc, case, "candidate")? {
+        candidates.push(candidate(alloc, text)?)?;
     }
-    Ok(pick(&candidates))
+    Ok(candidates)
+}
+
+fn picked(alloc: Global, case: &str) -> Result<String, Fail> {
+    let place = pick(&candidates(alloc, case)?);
+    Ok(format!(in alloc; "{place:?}")?)
+}
+
+// The same, one candidate after another, beside its rank.
+fn least(candidates: &[Candidate]) -> Option<usize> {
+    let mut best = None;
+    for (item, candidate) in candidates.iter().enumerate() {
+        let rank = rank(candidate);
+        best = better(best, Ranked { rank, item });
+    }
+    best.map(|best| best.item)
+}
+
+fn kept(alloc: Global, case: &str) -> Result<String, Fail> {
+    let place = least(&candidates(alloc, case)?);
+    Ok(format!(in alloc; "{place:?}")?)
 }
 
 #[test]
 fn the_least_rank_is_picked(rt: HostRuntime) -> Result<(), Fail> {
-    for (case, rows, place) in CASES {
-        equal(&rt, case, &picked(rt.alloc(), rows)?, place);
-        equal(&rt, case, &kept(rt.alloc(), rows)?, place);
-    }
-    Ok(())
+    compare(rt.alloc(), CASES, picked)?;
+    compare(rt.alloc(), CASES, kept)
 }
 
-// The same, one candidate after another, beside its rank.
-fn kept(alloc: Global, rows: &[CandidateRow]) -> Result<Option<usize>, Fail> {
-    let mut best = None;
-    for (place, row) in rows.iter().enumerate() {
-        let next = Ranked {
-            rank: rank(&candidate(alloc, row)?),
-            item: place,
-        };
-        best = better(best, next);
-    }
-    Ok(best.map(|best| best.item))
+// The rank of a candidate.
+fn ranked(alloc: Global, text: &str) -> Result<String, Fail> {
+    let rank = rank(&candidate(alloc, text)?);
+    let (learnt, length, origin, sender) = (rank.learnt, rank.length, rank.origin, rank.sender);
+    Ok(format!(in alloc; "{learnt} {length} {origin:?} {sender:?}")?)
 }
 
 #[test]
 fn candidates_are_ranked(rt: HostRuntime) -> Result<(), Fail> {
-    let rank = rank(&candidate(rt.alloc(), &(false, 0, Origin::Egp, 5))?);
-    equal(&rt, "learnt", &rank.learnt, &false);
-    equal(&rt, "length", &rank.length, &0);
-    equal(&rt, "ORIGIN", &rank.origin, &Origin::Egp);
-    equal(&rt, "sender", &rank.sender, &RouterId(5));
-    Ok(())
+    let found = ranked(rt.alloc(), "own 0 egp 5")?;
+    same("a rank", &found, "false 0 Egp RouterId(5)")
 }

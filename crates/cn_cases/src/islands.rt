@@ -1,66 +1,58 @@
 //! The labels of islands, and sets of devices.
 
-use crate::build::{LinkRow, layered, link, links_of};
-use crate::opening::devices;
-use crate::words::{self, equal, same};
 use cn_base::DeviceId;
-use cn_island::islands;
+use cn_given::build::{layered, links_of, numbered_link};
+use cn_given::opening::{devices, labels};
+use cn_given::tables::{count, given};
+use cn_given::words::{self, compare, same};
 use cn_net::{DeviceSet, Labels, Link, LinkDraft, Net};
 use std::alloc::{AllocError, Global};
 use std::test::Fail;
 
-// A case, a layer for each device, the links, the emulated devices, and the label of each device.
-const CASES: &[(&str, &[u8], &[LinkRow], &str, &str)] = &[
-    (
-        "a chain over a link that is down is one island",
-        &[0; 3],
-        &[("n1", "n2", true), ("n0", "n1", false)],
-        "",
-        "n0 n0 n0",
-    ),
-    (
-        "two devices that an emulated one alone joins",
-        &[0; 3],
-        &[("n0", "n1", true), ("n1", "n2", true)],
-        "n1",
-        "n0 - n2",
-    ),
-    (
-        "a device without links",
-        &[0; 3],
-        &[("n2", "n0", true)],
-        "",
-        "n0 n1 n0",
-    ),
-    (
-        "a link joins two islands that earlier links made",
-        &[0; 5],
-        &[("n4", "n3", true), ("n1", "n2", true), ("n4", "n2", true)],
-        "n0",
-        "- n1 n1 n1 n1",
-    ),
-    (
-        "no labels where all are emulated",
-        &[0; 2],
-        &[("n0", "n1", true)],
-        "n1 n0 n1",
-        "- -",
-    ),
-];
+// A layer for each device, the links, the emulated devices, and the label of each device.
+const CASES: &str = "
+# a chain over a link that is down is one island
+layers 0 0 0
+links n1+n2 n0-n1
+gives n0 n0 n0
+# two devices that an emulated one alone joins
+layers 0 0 0
+links n0+n1 n1+n2
+emulated n1
+gives n0 - n2
+# a device without links
+layers 0 0 0
+links n2+n0
+gives n0 n1 n0
+# a link joins two islands that earlier links made
+layers 0 0 0 0 0
+links n4+n3 n1+n2 n4+n2
+emulated n0
+gives - n1 n1 n1 n1
+# no labels where all are emulated
+layers 0 0
+links n0+n1
+emulated n1 n0 n1
+gives - -
+";
 
-fn labelled(alloc: Global, layers: &[u8], links: &[LinkRow], names: &str) -> Result<String, Fail> {
-    let net = layered(alloc, layers, links_of(alloc, links)?)?;
-    let emulated = devices(alloc, &net, names)?;
-    words::labels(alloc, &net, &islands(alloc, &net, &emulated)?)
+// The labels by following links.
+fn followed(alloc: Global, net: &Net, names: &str) -> Result<String, Fail> {
+    words::labels(alloc, net, &labels(alloc, net, names)?)
+}
+
+fn net(alloc: Global, case: &str) -> Result<Net, Fail> {
+    let links = links_of(alloc, given(case, "links"))?;
+    layered(alloc, given(case, "layers"), links)
+}
+
+fn labelled(alloc: Global, case: &str) -> Result<String, Fail> {
+    followed(alloc, &net(alloc, case)?, given(case, "emulated"))
 }
 
 #[test]
 fn islands_are_labelled(rt: HostRuntime) -> Result<(), Fail> {
-    for (case, layers, links, emulated, labels) in CASES {
-        let found = labelled(rt.alloc(), layers, links, emulated)?;
-        same(&rt, case, &found, labels);
-    }
-    Ok(())
+    compare(rt.alloc(), CASES, labelled)
 }
 
 // ---- plain relabelling, as the definition has it: one link after another
@@ -93,65 +85,119 @@ fn relabelled(alloc: Global, net: &Net, emulated: &DeviceSet) -> Result<Labels, 
     Ok(Labels::make(labels))
 }
 
-// Links from each of sixty devices to those that stand so many places on.
-fn strides(alloc: Global, near: u32, far: u32) -> Result<Vec<LinkDraft>, Fail> {
+// Links from each of sixty devices to the one that stands so many places on, of which each third is
+// up.
+fn stride(alloc: Global, places: u32) -> Result<Vec<LinkDraft>, Fail> {
     let mut links = Vec::new(alloc);
-    for stride in [near, far] {
-        for i in 0..60u32 {
-            let on = i.wrapping_add(stride);
-            if on < 60 {
-                let (a, b) = (format!(in alloc; "n{i}")?, format!(in alloc; "n{on}")?);
-                links.push(link(alloc, &a, &b, i % 3 == 0)?)?;
-            }
-        }
+    for i in 0..60u32.saturating_sub(places) {
+        links.push(numbered_link(alloc, 'n', i, i.wrapping_add(places), i % 3 == 0)?)?;
     }
     Ok(links)
 }
 
-// How far the links of sixty devices lead, and the emulated devices.
-const STRIDES: &[(u32, u32, &str)] = &[
-    (7, 60, ""),
-    (6, 15, "n0 n5 n17 n40"),
-    (12, 9, "n3 n4 n5 n20 n21 n22 n50"),
-    (59, 58, "n1"),
-    (4, 6, "n10 n11 n12 n13 n14 n15 n30 n32 n34 n36"),
-];
+fn strides(alloc: Global, near: u32, far: u32) -> Result<Vec<LinkDraft>, Fail> {
+    let mut links = stride(alloc, near)?;
+    for link in stride(alloc, far)? {
+        links.push(link)?;
+    }
+    Ok(links)
+}
 
-// Whether following links gives the labels that plain relabelling gives.
-fn agrees(alloc: Global, near: u32, far: u32, names: &str) -> Result<bool, Fail> {
-    let net = layered(alloc, &[0; 60], strides(alloc, near, far)?)?;
-    let emulated = devices(alloc, &net, names)?;
-    let found = words::labels(alloc, &net, &islands(alloc, &net, &emulated)?)?;
-    let plain = words::labels(alloc, &net, &relabelled(alloc, &net, &emulated)?)?;
-    Ok(found.as_str() == plain.as_str())
+// How far the links of sixty devices lead, the emulated devices, and whether both ways give the same
+// labels.
+const STRIDES: &str = "
+# one stride
+near 7
+far 60
+gives the same
+# two that have a divisor
+near 6
+far 15
+emulated n0 n5 n17 n40
+gives the same
+# the farther first
+near 12
+far 9
+emulated n3 n4 n5 n20 n21 n22 n50
+gives the same
+# from the first devices to the last
+near 59
+far 58
+emulated n1
+gives the same
+# rows of emulated devices
+near 4
+far 6
+emulated n10 n11 n12 n13 n14 n15 n30 n32 n34 n36
+gives the same
+";
+
+const SIXTY: &str = "0 0 0 0 0 0 0 0 0 0 0 0 0 0 0 0 0 0 0 0 0 0 0 0 0 0 0 0 0 0 \
+    0 0 0 0 0 0 0 0 0 0 0 0 0 0 0 0 0 0 0 0 0 0 0 0 0 0 0 0 0 0";
+
+fn sixty(alloc: Global, case: &str) -> Result<Net, Fail> {
+    let links = strides(alloc, count(case, "near")?, count(case, "far")?)?;
+    layered(alloc, SIXTY, links)
+}
+
+// The labels by plain relabelling.
+fn plain(alloc: Global, net: &Net, names: &str) -> Result<String, Fail> {
+    let emulated = devices(alloc, net, names)?;
+    words::labels(alloc, net, &relabelled(alloc, net, &emulated)?)
+}
+
+// The labels by following links, if those by plain relabelling are others.
+fn differing(alloc: Global, net: &Net, names: &str) -> Result<String, Fail> {
+    let (followed, plain) = (followed(alloc, net, names)?, plain(alloc, net, names)?);
+    if followed.as_str() == plain.as_str() {
+        return Ok(String::from_str(alloc, "the same")?);
+    }
+    Ok(followed)
+}
+
+fn agrees(alloc: Global, case: &str) -> Result<String, Fail> {
+    differing(alloc, &sixty(alloc, case)?, given(case, "emulated"))
 }
 
 #[test]
 fn labels_are_as_by_relabelling(rt: HostRuntime) -> Result<(), Fail> {
-    for (near, far, emulated) in STRIDES {
-        let agrees = agrees(rt.alloc(), *near, *far, emulated)?;
-        equal(&rt, "strides", &(*near, *far, agrees), &(*near, *far, true));
-    }
-    Ok(())
+    compare(rt.alloc(), STRIDES, agrees)
 }
 
 // ---- sets
 
-// Numbers, and whether their devices are in the set.
-const HELD: &[(u32, bool)] = &[(0, true), (1, true), (2, false), (3, true), (4, false)];
+// Which of five devices are in a set.
+fn members(alloc: Global, set: &DeviceSet) -> Result<String, Fail> {
+    let mut text = String::new(alloc);
+    for number in 0..5 {
+        text.push_str(if set.holds(DeviceId(number)) {
+            " in"
+        } else {
+            " out"
+        })?;
+    }
+    Ok(text)
+}
+
+// The names of a set, their number, and which devices are in it.
+fn set_told(alloc: Global, net: &Net, set: &DeviceSet) -> Result<String, Fail> {
+    let names = words::names(alloc, net, set.items())?;
+    let (members, len) = (members(alloc, set)?, set.len());
+    Ok(format!(in alloc; "{names}, {len}:{members}")?)
+}
+
+fn set_in(alloc: Global, net: &Net, names: &str) -> Result<String, Fail> {
+    set_told(alloc, net, &devices(alloc, net, names)?)
+}
+
+// The same of a set of four devices.
+fn told(alloc: Global, names: &str) -> Result<String, Fail> {
+    set_in(alloc, &layered(alloc, "0 0 0 0", Vec::new(alloc))?, names)
+}
 
 // A set has each device once, in order, however the names stood.
 #[test]
 fn devices_stand_once_in_a_set(rt: HostRuntime) -> Result<(), Fail> {
-    let alloc = rt.alloc();
-    let net = layered(alloc, &[0; 4], Vec::new(alloc))?;
-    let set = devices(alloc, &net, "n3 n1 n3 n0 n1")?;
-    let names = words::names(alloc, &net, set.items())?;
-    same(&rt, "a set", &names, "n0 n1 n3");
-    equal(&rt, "a set", &set.len(), &3);
-    for row in HELD {
-        let (number, _) = *row;
-        equal(&rt, "held", &(number, set.holds(DeviceId(number))), row);
-    }
-    Ok(())
+    let found = told(rt.alloc(), "n3 n1 n3 n0 n1")?;
+    same("a set", &found, "n0 n1 n3, 3: in in out in out")
 }

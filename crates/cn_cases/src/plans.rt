@@ -4,102 +4,72 @@ ghost use Rattle.std.specs.Prelude.{All, IfOk};
 ghost use Rattle.cn_net.specs.Network.{IsDevice};
 ghost use Rattle.cn_plan.specs.Selected.{named};
 
-use crate::build::{DeviceRow, LinkRow, device, draft, link, network, prefixes_from};
-use crate::nets::{FIVE, FIVE_LINKS, L1, L2, S1, T1, T2};
-use crate::opening::{RecordRow, devices, rows};
-use crate::words::{self, equal, same};
-use cn_net::{LinkDraft, Net};
-use cn_plan::{PlanAnswer, Selection, plan};
+use cn_given::build::{device, made, network_of, numbered_link, prefixes_from};
+use cn_given::opening::{devices, saved};
+use cn_given::tables::{all_given, count, given};
+use cn_given::words::{self, compare};
+use cn_net::{DeviceDraft, LinkDraft, Net};
+use cn_plan::{Plan, PlanAnswer, Selection, plan};
 use cn_record::Saved;
 use std::alloc::Global;
 use std::test::Fail;
 
-const T1_BOTH: DeviceRow = ("t1", 1, 65101, "10.0.0.1", &["10.1.1.0/24", "10.1.2.0/24"]);
-
-const X1: DeviceRow = ("x1", 1, 65199, "10.0.0.9", &[]);
-
-const RECORD: RecordRow = ("t2", "10.1.2.0/24", "own", "-", "igp");
-
-// A case, the devices, the links, what is selected (the devices behind `must`, or those that are
-// emulated), the rows, and what is answered.
-const CASES: &[(&str, &[DeviceRow], &[LinkRow], &str, &[RecordRow], &str)] = &[
-    (
-        "grown from one rack",
-        &FIVE,
-        &FIVE_LINKS,
-        "must t1",
-        &[RECORD],
-        "emulated t1 l1 l2 s1 islands - t2 - - - rows 1",
-    ),
-    (
-        "grown from both racks",
-        &FIVE,
-        &FIVE_LINKS,
-        "must t2 t1",
-        &[],
-        "emulated t1 t2 l1 l2 s1 islands - - - - - rows 0",
-    ),
-    (
-        "everything",
-        &FIVE,
-        &FIVE_LINKS,
-        "s1 l2 l1 t2 t1",
-        &[],
-        "emulated t1 t2 l1 l2 s1 islands - - - - - rows 0",
-    ),
-    (
-        "two AS numbers on the emulated side",
-        &FIVE,
-        &FIVE_LINKS,
-        "t1 l1 s1",
-        &[RECORD],
-        "facing Emulated t2: t1 65101 l1 65201",
-    ),
-    (
-        "an emulated device originates a prefix of an island",
-        &[T1_BOTH, T2, L1, L2, S1],
-        &FIVE_LINKS,
-        "must t1",
-        &[RECORD],
-        "origins t2 10.1.2.0/24: t2 t1",
-    ),
-    (
-        "a record with another path",
-        &FIVE,
-        &FIVE_LINKS,
-        "must t1",
-        &[("t2", "10.1.2.0/24", "own", "65102", "igp")],
-        "t2 10.1.2.0/24: held own path 65102 origin igp wanted own path - origin igp",
-    ),
-    (
-        "nothing emulated and no record",
-        &FIVE,
-        &FIVE_LINKS,
-        "must",
-        &[],
-        "t1 10.1.1.0/24: held none wanted own path - origin igp",
-    ),
-    (
-        "a device without links is an island of its own",
-        &[T1, T2, L1, L2, S1, X1],
-        &FIVE_LINKS,
-        "must t1",
-        &[RECORD],
-        "emulated t1 l1 l2 s1 islands - t2 - - - x1 rows 1",
-    ),
-    (
-        "links that are down join an island",
-        &FIVE,
-        &[
-            ("t1", "l1", false),
-            ("t2", "l1", false),
-            ("l1", "s1", false),
-        ],
-        "l2 s1",
-        &[("t1", "10.1.1.0/24", "own", "-", "igp"), RECORD],
-        "emulated l2 s1 islands t1 t1 t1 - - rows 2",
-    ),
-];
+// The devices, the links, what is selected (the devices behind `must`, or those that are emulated),
+// the rows, and what is answered.
+const CASES: &str = "
+# grown from one rack
+devices five
+links five
+selected must t1
+record t2 10.1.2.0/24 own igp -
+gives emulated t1 l1 l2 s1 islands - t2 - - - rows 1
+# grown from both racks
+devices five
+links five
+selected must t2 t1
+gives emulated t1 t2 l1 l2 s1 islands - - - - - rows 0
+# everything
+devices five
+links five
+selected s1 l2 l1 t2 t1
+gives emulated t1 t2 l1 l2 s1 islands - - - - - rows 0
+# two AS numbers on the emulated side
+devices five
+links five
+selected t1 l1 s1
+record t2 10.1.2.0/24 own igp -
+gives facing Emulated t2: t1 65101 l1 65201
+# an emulated device originates a prefix of an island
+devices t1-both t2 l1 l2 s1
+links five
+selected must t1
+record t2 10.1.2.0/24 own igp -
+gives origins t2 10.1.2.0/24: t2 t1
+# a record with another path
+devices five
+links five
+selected must t1
+record t2 10.1.2.0/24 own igp 65102
+gives t2 10.1.2.0/24: held own path 65102 origin igp wanted own path - origin igp
+# nothing emulated and no record
+devices five
+links five
+selected must
+gives t1 10.1.1.0/24: held none wanted own path - origin igp
+# a device without links is an island of its own
+devices t1 t2 l1 l2 s1 x1
+links five
+selected must t1
+record t2 10.1.2.0/24 own igp -
+gives emulated t1 l1 l2 s1 islands - t2 - - - x1 rows 1
+# links that are down join an island
+devices five
+links t1-l1 t2-l1 l1-s1
+selected l2 s1
+record t1 10.1.1.0/24 own igp -
+record t2 10.1.2.0/24 own igp -
+gives emulated l2 s1 islands t1 t1 t1 - - rows 2
+";
 
 fn selection(alloc: Global, net: &Net, text: &str) -> Result<Selection, Fail>
     ensures { IfOk result (λ selection. All (IsDevice net.now) (named selection)) }
@@ -125,91 +95,134 @@ fn unplanned(alloc: Global, answer: &PlanAnswer) -> Result<String, Fail> {
     }
 }
 
-fn answer(alloc: Global, net: Net, text: &str, records: &[RecordRow]) -> Result<String, Fail> {
-    let selection = selection(alloc, &net, text)?;
-    let saved = Saved::make(rows(alloc, &net, records)?)?;
-    match plan(alloc, net, selection, saved) {
+fn told(alloc: Global, answer: &Result<Plan, PlanAnswer>) -> Result<String, Fail> {
+    match answer {
         Ok(plan) => words::recorded(alloc, &plan.recorded),
-        Err(answer) => unplanned(alloc, &answer),
+        Err(answer) => unplanned(alloc, answer),
     }
+}
+
+fn planned(alloc: Global, net: Net, selection: Selection, saved: Saved) -> Result<String, Fail>
+    requires { All (IsDevice net) (named selection) }
+{
+    told(alloc, &plan(alloc, net, selection, saved))
+}
+
+// What is answered of a network, what is selected, and rows.
+fn answer_in(alloc: Global, net: Net, text: &str, records: &[&str]) -> Result<String, Fail> {
+    let saved = saved(alloc, &net, records)?;
+    let selection = selection(alloc, &net, text)?;
+    planned(alloc, net, selection, saved)
+}
+
+fn answer(alloc: Global, case: &str) -> Result<String, Fail> {
+    let records = all_given(alloc, case, "record")?;
+    answer_in(
+        alloc,
+        network_of(alloc, case)?,
+        given(case, "selected"),
+        &records,
+    )
 }
 
 #[test]
 fn plans_are_made_or_refused(rt: HostRuntime) -> Result<(), Fail> {
-    let alloc = rt.alloc();
-    for (case, devices, links, selected, records, text) in CASES {
-        let net = network(alloc, devices, links)?;
-        let found = answer(alloc, net, selected, records)?;
-        same(&rt, case, &found, text);
-    }
-    Ok(())
+    compare(rt.alloc(), CASES, answer)
 }
 
 // ---- the limits
 
-// Links that are down, from each of the first so many devices to each of the next so many.
+// Links that are down, from the device of this number to each of the second so many.
+fn links_from(alloc: Global, links: &mut Vec<LinkDraft>, a: u32, linked: u32) -> Result<(), Fail> {
+    for b in 0..linked {
+        links.push(numbered_link(alloc, 'n', a, b.wrapping_add(linked), false)?)?;
+    }
+    Ok(())
+}
+
+// The same from each of the first so many devices.
 fn links_between(alloc: Global, linked: u32) -> Result<Vec<LinkDraft>, Fail> {
     let mut links = Vec::new(alloc);
     for a in 0..linked {
-        for b in 0..linked {
-            let b = b.wrapping_add(linked);
-            let (a, b) = (format!(in alloc; "n{a}")?, format!(in alloc; "n{b}")?);
-            links.push(link(alloc, &a, &b, false)?)?;
-        }
+        links_from(alloc, &mut links, a, linked)?;
     }
     Ok(links)
 }
 
-// So many devices, of which the first originates so many prefixes.
-fn wide(alloc: Global, count: u32, linked: u32, prefixes: u32) -> Result<Net, Fail> {
+// The device of this number, of which the first originates so many prefixes.
+fn nth_device(alloc: Global, number: u32, prefixes: u32) -> Result<DeviceDraft, Fail> {
+    let text = format!(in alloc; "n{number}")?;
+    let own = prefixes_from(alloc, 0, if number == 0 { prefixes } else { 0 })?;
+    device(alloc, &text, 0, number.wrapping_add(1), number, own)
+}
+
+fn first_devices(alloc: Global, count: u32, prefixes: u32) -> Result<Vec<DeviceDraft>, Fail> {
     let mut devices = Vec::new(alloc);
     for number in 0..count {
-        let text = format!(in alloc; "n{number}")?;
-        let own = prefixes_from(alloc, 0, if number == 0 { prefixes } else { 0 })?;
-        let asn = number.wrapping_add(1);
-        devices.push(device(alloc, &text, 0, asn, number, own)?)?;
+        devices.push(nth_device(alloc, number, prefixes)?)?;
     }
-    Ok(Net::make(alloc, &draft(devices, links_between(alloc, linked)?))?)
+    Ok(devices)
+}
+
+fn wide(alloc: Global, case: &str) -> Result<Net, Fail> {
+    let devices = first_devices(alloc, count(case, "devices")?, count(case, "prefixes")?)?;
+    made(
+        alloc,
+        devices,
+        links_between(alloc, count(case, "linked")?)?,
+    )
 }
 
 fn all_names(alloc: Global, net: &Net) -> Result<String, Fail> {
-    let mut names: Vec<&str> = Vec::new(alloc);
+    let mut text = String::new(alloc);
     for device in net.devices() {
-        names.push(device.name.text())?;
+        text.push_str(device.name.text())?;
+        text.push_str(" ")?;
     }
-    Ok(names.join(alloc, " ")?)
+    Ok(text)
 }
 
 // What is answered where all devices are emulated.
 fn answer_of_all(alloc: Global, net: Net) -> Result<String, Fail> {
     let names = all_names(alloc, &net)?;
-    answer(alloc, net, &names, &[])
+    answer_in(alloc, net, &names, &[])
 }
 
-// A case, how many devices are emulated, how many are linked to as many, how many prefixes there
-// are, and where that is too many what is answered.
-const LIMITS: &[(&str, u32, u32, u32, Option<&str>)] = &[
-    ("as many devices as may be", 1024, 0, 1, None),
-    ("a device more", 1025, 0, 1, Some("too many Emulated 1025")),
-    ("as many rows as may be", 128, 64, 2048, None),
-    (
-        "a prefix more",
-        128,
-        64,
-        2049,
-        Some("too many Rows 16785408"),
-    ),
-];
+// The same, and of a plan that is made only that it is.
+fn limited(alloc: Global, case: &str) -> Result<String, Fail> {
+    let found = answer_of_all(alloc, wide(alloc, case)?)?;
+    if found.starts_with("emulated ") {
+        return Ok(String::from_str(alloc, "emulated")?);
+    }
+    Ok(found)
+}
+
+// How many devices are emulated, how many are linked to as many, how many prefixes there are, and
+// what is answered.
+const LIMITS: &str = "
+# as many devices as may be
+devices 1024
+linked 0
+prefixes 1
+gives emulated
+# a device more
+devices 1025
+linked 0
+prefixes 1
+gives too many Emulated 1025
+# as many rows as may be
+devices 128
+linked 64
+prefixes 2048
+gives emulated
+# a prefix more
+devices 128
+linked 64
+prefixes 2049
+gives too many Rows 16785408
+";
 
 #[test]
 fn limits_are_told(rt: HostRuntime) -> Result<(), Fail> {
-    for (case, count, linked, prefixes, text) in LIMITS {
-        let net = wide(rt.alloc(), *count, *linked, *prefixes)?;
-        let found = answer_of_all(rt.alloc(), net)?;
-        match text {
-            Some(text) => same(&rt, case, &found, text),
-            None => equal(&rt, case, &found.starts_with("emulated "), &true),
-        }
-    }
-    Ok(())
+    compare(rt.alloc(), LIMITS, limited)
 }

@@ -1,5 +1,7 @@
 //! Answers in words, and whether they are those of a case.
 
+use crate::pieces::wanted_text;
+use crate::tables::{cases, name};
 use cn_base::{Choice, DeviceId, Prefix};
 use cn_cert::Refusal;
 use cn_net::{Labels, Net};
@@ -7,18 +9,32 @@ use cn_record::Recorded;
 use cn_report::put_choice;
 use cn_text::put_prefix;
 use std::alloc::Global;
-use std::fmt::Debug;
-use std::process::Abort;
 use std::test::Fail;
 
-/// Stops, naming the case, where another text is found than its own.
-pub fn same(rt: &impl Abort, case: &str, found: &str, text: &str) {
-    assert_eq!(rt; found, text, "{case}");
+/// Fails, naming the case, where another text is found than its own.
+pub fn same(case: &str, found: &str, text: &str) -> Result<(), Fail> {
+    if found == text {
+        return Ok(());
+    }
+    Err(Fail::new(format_args!("{case}: found {found}, wanted {text}")))
 }
 
-/// Stops, naming the case, where another value is found than its own.
-pub fn equal<T: Debug + PartialEq>(rt: &impl Abort, case: &str, found: &T, value: &T) {
-    assert_eq!(rt; found, value, "{case}");
+/// Fails, naming the case, where the answer for one of the table isn't what it wants.
+pub fn compare<F: Fn(Global, &str) -> Result<String, Fail>>(
+    alloc: Global,
+    table: &str,
+    answer: F,
+) -> Result<(), Fail>
+    requires { F.IsAlwaysCallable answer }
+{
+    for case in cases(alloc, table)? {
+        same(
+            name(case),
+            &answer(alloc, case)?,
+            &wanted_text(alloc, case)?,
+        )?;
+    }
+    Ok(())
 }
 
 /// The name of a device, and a dash where there is no such device.

@@ -1,5 +1,5 @@
 use Rattle.cn_net.specs.Islands.{label_of, outside_of}
-use Rattle.cn_cases.proofs.opening.certificate.Goals as goal
+use Rattle.cn_given.proofs.opening.certificate.Goals as goal
 
 pub certify-requires-clause-labelling : goal.certify-requires-clause-labelling
 certify-requires-clause-labelling c =
