@@ -1,5 +1,5 @@
-//! The cases of calls: what the core does event by event, what scripts answer, what plans open with,
-//! and what the top call answers, puts and leaves.
+//! The cases of calls: what the core does event by event, what scripts answer, what plans open
+//! with, and what the top call answers, puts and leaves.
 //!
 //! The top call is made by `commands`, over a shelf and an out that tell what they hold, for the
 //! cases of `planning`, `running` and `failing`. Each of these says too how many reads, writes and

@@ -103,8 +103,8 @@ fn strides(alloc: Global, near: u32, far: u32) -> Result<Vec<LinkDraft>, Fail> {
     Ok(links)
 }
 
-// How far the links of sixty devices lead, the emulated devices, and whether both ways give the same
-// labels.
+// How far the links of sixty devices lead, the emulated devices, and whether both ways give the
+// same labels.
 const STRIDES: &str = "
 # one stride
 near 7

@@ -3,8 +3,8 @@
 //!
 //! A crate that has tests is proved twice, once without them and once with them. So what is tested
 //! on a network is tested here and in `cn_calls`, and what is tested of values, of texts and of the
-//! edge in `cn_values` and `cn_texts`. Each module has a table of named cases, with the text that is
-//! expected; a test that fails prints the name of its case. What both crates use is `cn_given`.
+//! edge in `cn_values` and `cn_texts`. Each module has a table of named cases, with the text that
+//! is expected; a test that fails prints the name of its case. What both crates use is `cn_given`.
 //!
 //! The expected texts come from the definitions, the RFCs and the program's other description, its
 //! acceptance cases; none is copied from an answer of the code.

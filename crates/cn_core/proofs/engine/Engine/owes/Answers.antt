@@ -5,4 +5,5 @@ pub returns : goal.returns
 returns c x =
     owes-listed c.self.inside.net c.self.inside.sessions.items c.self.inside.ribs.items
     c.self.inside.index c.self.inside.owed.items c.self.invariant c.args.self.now c.self.view_is
-    c.args.place c.index.result.now c.is_empty.result c.requires c.index.ensures c.is_empty.ensures x
+    c.args.place c.index.result.now c.is_empty.result c.requires c.index.ensures
+    c.is_empty.ensures x
