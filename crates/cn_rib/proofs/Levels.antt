@@ -201,15 +201,14 @@ module _ (counts words tops words' tops' : List ℕ) (i v : ℕ)
       let before = word_held words counts i levels.words_above was in
       levels_follow (omega arith) (omega (arith, before, levels.tops_above (i / 64)))
 
--- the levels hold where a count stays above 0, and no bit changed
+-- the levels hold where a count stays above 0 or stays 0, and no bit changed
 pub levelled_kept : (counts words tops : List ℕ) (i v : ℕ) → IsLevelled counts words tops
-    → i < length counts → 0 < get_or counts i 0 → 0 < v
+    → i < length counts → min 1 (get_or counts i 0) ≡ min 1 v
     → IsLevelled (set counts i v) words tops
-levelled_kept counts words tops i v levels there was some =
-    let held = word_held words counts i levels.words_above was in
+levelled_kept counts words tops i v levels there same =
     levels_follow counts words tops words tops i v levels there refl refl
     (λ k other. refl) (λ k other. refl) (λ k other. refl)
-    (omega (arith, levels.words_above i)) (levels.tops_above (i / 64))
+    (levels.words_above i ∙ same) (levels.tops_above (i / 64))
 
 -- ---- the bits as the code writes them
 

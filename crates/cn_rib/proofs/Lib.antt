@@ -3,3 +3,4 @@ pub mod Levels
 pub mod Prefixes
 pub mod Rows
 pub mod PrefixMaps
+pub mod Updates

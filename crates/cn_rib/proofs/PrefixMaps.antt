@@ -1,14 +1,16 @@
 -- What maps that are made of another have at each prefix.
-use Rattle.std.proofs.Common.{◌≡◌, Bool, true, false, cond, List, [], ◌∷◌, Option, Some, None, refl, sym, ap, ◌∙◌, inl, inr}
+use Rattle.std.proofs.Common.{◌≡◌, ℕ, ◌-◌, ◌≤◌, Bool, true, false, cond, List, [], ◌∷◌, ◌++◌, arith, drop, length, length-drop, map, take, Option, Some, None, refl, sym, ap, ◌∙◌, inl, inr}
 use Rattle.std.specs.Prelude.{◌&&◌, ◌||◌, T, option_and_then}
 use Rattle.std.specs.List.{fold, list_any}
 use Rattle.std.specs.FinMap.{FinMap}
 use Rattle.std.specs.FinMap as fin
 use Rattle.std.specs.FinMap.Entries.{below_all}
 use Rattle.std.specs.Ordering.{eq_by_cmp}
+use Rattle.std.proofs.lemmas.List.{take-append-drop, take_all}
+use Rattle.cn_lists.proofs.Folding.{fold-append}
 use Rattle.cn_base.specs.Cidr.{Cidr, same_prefix}
 use Rattle.cn_base.specs.Table.{prefix_cmp}
-use Rattle.cn_rib.specs.PrefixMaps.{add_front, picked, picked_entries, put_at}
+use Rattle.cn_rib.specs.PrefixMaps.{add_front, picked, picked_entries, put_all, put_at, remove_all}
 use Rattle.cn_rib.proofs.Keyed.{find_below, get_inserted, get_removed}
 use Rattle.cn_rib.proofs.Prefixes.{same_itself, same_tells, tied}
 use Rattle.cn_rib.proofs.Rows.{first_true, second_true}
@@ -56,6 +58,31 @@ module _ {X : Type 0} where
       either : (b : Bool) (x : Option X) → cond b x x ≡ x
       either true x = refl
       either false x = refl
+
+-- ---- a map with more entries
+
+module _ {A X : Type 0} (entry : A → Cidr × X) where
+  -- one entry more
+  pub put_all-push : (m : FinMap prefix_cmp X) (xs : List A) (x : A)
+      → put_all m (map entry (xs ++ x ∷ []))
+      ≡ fin.insert (put_all m (map entry xs)) (entry x).0 (entry x).1
+  put_all-push m [] x = refl
+  put_all-push m (y ∷ xs) x = put_all-push (fin.insert m (entry y).0 (entry y).1) xs x
+
+-- ---- a map without prefixes
+
+-- a map without the first n prefixes, and then without the others up to the end
+pub remove_all-rest : {X : Type 0} (m front made : FinMap prefix_cmp X) (ps : List Cidr) (n i : ℕ)
+    → front ≡ remove_all m (take n ps)
+    → made ≡ remove_all front (take i (take (length ps - n) (drop n ps)))
+    → length (take (length ps - n) (drop n ps)) ≤ i → made ≡ remove_all m ps
+remove_all-rest m front made ps n i first then end =
+    let others = take (length ps - n) (drop n ps) in
+    then ∙ ap (λ k. remove_all k (take i others)) first
+    ∙ ap (remove_all (remove_all m (take n ps)))
+    (take_all i others end ∙ take_all (length ps - n) (drop n ps) (omega (arith, length-drop n ps)))
+    ∙ sym (fold-append fin.remove m (take n ps) (drop n ps))
+    ∙ ap (remove_all m) (take-append-drop n ps)
 
 -- ---- a map of some of the entries
 

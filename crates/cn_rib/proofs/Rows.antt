@@ -1,15 +1,15 @@
 -- Rows whose keys ascend, and the finite maps that they stand for.
-use Rattle.std.proofs.Common.{◌≡◌, ℕ, zero, suc, ◌<◌, ◌≤◌, Bool, true, false, cond, List, [], ◌∷◌, length, map, get_or, set, Some, None, Less, Equal, Greater, refl, sym, ap, ◌∙◌, subst, arith}
+use Rattle.std.proofs.Common.{◌≡◌, ℕ, zero, suc, ◌-◌, ◌<◌, ◌≤◌, Bool, true, false, cond, List, [], ◌∷◌, ◌++◌, length, length-drop, map, get_or, set, take, drop, Some, None, Less, Equal, Greater, refl, sym, ap, ◌∙◌, subst, arith}
 use Rattle.std.specs.Prelude.{◌&&◌, T}
 use Rattle.std.specs.Cmp.{IsTotalOrder}
 use Rattle.std.specs.FinMap.{FinMap, IsAntisymmetric, empty, empty_of_len, entries, entries-from_sorted, entries-insert, find, from_sorted, get-from_sorted, get-remove, is_sorted, len-entries, put, same_entries_map, same_map}
 use Rattle.std.specs.FinMap as fin
 use Rattle.std.specs.FinMap.Entries.{below_all, by_order, is_sorted-put}
-use Rattle.std.specs.List.{insert, remove}
+use Rattle.std.specs.List.{fold, insert, remove}
 use Rattle.std.specs.List.Sorted.{IsNonDecreasingBy, IsPartitionPoint}
 use Rattle.std.specs.Ordering.{eq_by_cmp, is_eq, is_lt, ordering_index, ordering_reverse}
 use Rattle.std.specs.declared.cmp.Ordering.{Ordering}
-use Rattle.std.proofs.lemmas.List.{length-map}
+use Rattle.std.proofs.lemmas.List.{length-map, take_at}
 use Rattle.cn_lists.proofs.Halving.{IsNonDecreasingBy-from_pairs}
 
 -- ---- tests
@@ -49,6 +49,14 @@ swapped false b x y z apart = refl
 pub from_no_rows : {K X : Type 0} (R : K → K → Ordering)
     → ◌≡◌ {A = FinMap R X} (from_sorted []) empty
 from_no_rows R = empty_of_len _ (len-entries _ ∙ ap length (entries-from_sorted R [] tt))
+
+-- rows that were turned by n, without their last n, are the old ones without their first n
+pub turned_and_cut : {A : Type 0} (n len : ℕ) (old turned new : List A)
+    → turned ≡ drop n old ++ take n old → new ≡ take (len - n) turned → len ≡ length old
+    → new ≡ drop n old
+turned_and_cut n len old turned new turn cut all =
+    cut ∙ ap (take (len - n)) turn
+    ∙ take_at (drop n old) (take n old) (len - n) (omega (arith, all, length-drop n old))
 
 module _ {A K X : Type 0} {R : K → K → Ordering} (o : IsTotalOrder R) (exact : IsAntisymmetric R)
     (key : A → K) (value : A → X) where
@@ -229,6 +237,21 @@ module _ {A K X : Type 0} {R : K → K → Ordering} (o : IsTotalOrder R) (exact
       (find_removed rows k i d q (second_true _ _ s) (omega arith) here)
       ∙ swapped (eq_by_cmp R q (key r)) (eq_by_cmp R q k) _ _ _ apart
 
+  -- rows of which the first are taken out ascend
+  pub sorted_dropped : (n : ℕ) (rows : List A) → T (is_sorted R (entries_of rows))
+      → T (is_sorted R (entries_of (drop n rows)))
+  sorted_dropped zero rows s = s
+  sorted_dropped (suc n) [] s = tt
+  sorted_dropped (suc n) (r ∷ rows) s = sorted_dropped n rows (second_true _ _ s)
+
+  itself : (k : K) → R k k ≡ Equal
+  itself k = alike (R k k) (o.antisymm k k)
+    where
+      alike : (a : Ordering) → a ≡ ordering_reverse a → a ≡ Equal
+      alike Less e = cc
+      alike Equal e = refl
+      alike Greater e = cc
+
   -- ---- the map that the rows stand for
 
   module _ (rows : List A) (m : FinMap R X) (s : T (is_sorted R (entries_of rows)))
@@ -287,3 +310,14 @@ module _ {A K X : Type 0} {R : K → K → Ordering} (o : IsTotalOrder R) (exact
               ap (fin.get m) (exact q k (equal _ (subst T (sym is) tt))) ∙ sym (get_in_gap k i gap)
           | false ↦ λ is. refl
         ] refl ∙ sym (get-remove o m k q))
+
+  -- rows of which the first are taken out stand for the map without the keys of those
+  pub front_removed : (n : ℕ) (rows : List A) → T (is_sorted R (entries_of rows))
+      → from_sorted {R = R} (entries_of (drop n rows))
+      ≡ fold fin.remove (from_sorted (entries_of rows)) (map key (take n rows))
+  front_removed zero rows s = refl
+  front_removed (suc n) [] s = refl
+  front_removed (suc n) (r ∷ rows) s =
+      front_removed n rows (second_true _ _ s)
+      ∙ ap (λ m. fold fin.remove m (map key (take n rows)))
+      (remove_is (r ∷ rows) _ s refl (key r) 0 r (omega arith) (itself (key r)))

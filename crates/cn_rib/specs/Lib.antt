@@ -2,3 +2,4 @@ pub mod Codes
 pub mod PrefixSet
 pub mod Tally
 pub mod PrefixMaps
+pub mod Updates

@@ -1,5 +1,6 @@
 -- Maps that are made of another: one that is changed at one prefix, and one of some of its entries.
 use Rattle.std.specs.Prelude.{List, [], ◌∷◌, Option, Some, None}
+use Rattle.std.specs.List.{fold}
 use Rattle.std.specs.FinMap.{FinMap}
 use Rattle.std.specs.FinMap as fin
 use Rattle.cn_base.specs.Cidr.{Cidr}
@@ -9,6 +10,14 @@ use Rattle.cn_base.specs.Table.{prefix_cmp}
 abbrev pub put_at : {X : Type 0} → FinMap prefix_cmp X → Cidr → Option X → FinMap prefix_cmp X
 put_at m p None = fin.remove m p
 put_at m p (Some v) = fin.insert m p v
+
+-- the map with these entries, put in one after the other
+abbrev pub put_all : {X : Type 0} → FinMap prefix_cmp X → List (Cidr × X) → FinMap prefix_cmp X
+put_all m es = fold (λ n e. fin.insert n e.0 e.1) m es
+
+-- the map without these prefixes
+abbrev pub remove_all : {X : Type 0} → FinMap prefix_cmp X → List Cidr → FinMap prefix_cmp X
+remove_all m ps = fold fin.remove m ps
 
 abbrev pub add_front : {Y : Type 0} → Cidr → Option Y → List (Cidr × Y) → List (Cidr × Y)
 add_front p None es = es

@@ -1,12 +1,13 @@
 //! Finite maps from prefixes.
 
-ghost use Rattle.std.specs.Prelude.{◌≡◌, ◌+◌, ◌<◌, ◌≤◌, ◌==◌, T, map, length, option_copied, IsOk, OnOk, OnErr};
+ghost use Rattle.std.specs.Prelude.{◌≡◌, ◌+◌, ◌++◌, ◌<◌, ◌≤◌, ◌==◌, T, map, length, option_copied, slice_get, take, IsOk, OnOk, OnErr};
 ghost use Rattle.std.specs.FinMap as fin;
-ghost use Rattle.std.specs.FinMap.{is_sorted};
+ghost use Rattle.std.specs.FinMap.{from_sorted, is_sorted};
 ghost use Rattle.std.specs.FinMap.Entries.{put};
 ghost use Rattle.std.specs.List.Sorted.{IsBinarySearchResult, IsSearchInRange};
 ghost use Rattle.std.specs.Vec.{vec_len, vec_capacity};
 ghost use Rattle.cn_base.specs.Table.{prefix_cmp};
+ghost use Rattle.cn_rib.specs.PrefixMaps.{put_all, remove_all};
 ghost use Rattle.cn_rib.specs.PrefixSet as set;
 
 use cn_base::Prefix;
@@ -85,6 +86,14 @@ impl<V> PrefixMap<V> {
         }
     }
 
+    /// The prefix at a place in their ascending order, from 0. None comes exactly where the place
+    /// is at or past the number of the prefixes.
+    pub fn prefix_at(&self, place: usize) -> Option<Prefix>
+        ensures { result ≡ slice_get (fin.keys self.now) place }
+    {
+        Some(self.rows.get(place)?.prefix)
+    }
+
     /// Sets what the map has for a prefix. It takes no memory where the prefix is in the map.
     pub fn insert(&mut self, prefix: Prefix, value: V) -> Result<(), AllocError>
     where
@@ -101,9 +110,7 @@ impl<V> PrefixMap<V> {
         V: Drop,
         ensures { self.new ≡ fin.remove self.old prefix.now }
     {
-        if let Ok(at) = place(&self.rows, prefix) {
-            self.rows.remove(at);
-        }
+        take_out(&mut self.rows, prefix);
     }
 
     /// Takes every prefix out.
@@ -113,6 +120,35 @@ impl<V> PrefixMap<V> {
         ensures { self.new ≡ fin.empty }
     {
         self.rows.clear();
+    }
+
+    // Takes each of these prefixes out.
+    pub(crate) fn remove_all(&mut self, prefixes: &[Prefix])
+    where
+        V: Drop,
+        ensures { self.new ≡ remove_all self.old prefixes.now }
+    {
+        take_all_out(&mut self.rows, prefixes);
+    }
+
+    // Takes each of these prefixes out, and then puts each of these rows in. All memory is taken
+    // before the first.
+    pub(crate) fn change(
+        &mut self,
+        removed: &[Prefix],
+        added: Vec<Row<V>>,
+    ) -> Result<(), AllocError>
+    where
+        V: Drop,
+        ensures ok { OnOk result (self.new
+            ≡ put_all (remove_all self.old removed.now)
+            (map (λ r. (r.prefix, r.value)) added.items)) }
+        ensures err { OnErr result (self.new ≡ self.old) }
+    {
+        self.rows.reserve(added.len())?;
+        take_all_out(&mut self.rows, removed);
+        put_all_in(&mut self.rows, added);
+        Ok(())
     }
 }
 
@@ -127,6 +163,42 @@ impl PrefixMap<()> {
         for row in more {
             put(&mut self.rows, row.prefix, ())?;
         }
+        Ok(())
+    }
+
+    // Puts each of these prefixes in. All memory is taken before the first.
+    pub(crate) fn insert_each(&mut self, prefixes: &[Prefix]) -> Result<(), AllocError>
+        ensures ok { OnOk result (self.new ≡ set.insert_all self.old prefixes.now) }
+        ensures err { OnErr result (self.new ≡ self.old) }
+    {
+        self.rows.reserve(prefixes.len())?;
+        note_all(&mut self.rows, prefixes);
+        Ok(())
+    }
+
+    // Changes another map, and puts in each prefix of two lists. All memory is taken before the
+    // first change.
+    pub(crate) fn note_change<V>(
+        &mut self,
+        other: &mut PrefixMap<V>,
+        removed: &[Prefix],
+        announced: &[Prefix],
+        added: Vec<Row<V>>,
+    ) -> Result<(), AllocError>
+    where
+        V: Drop,
+        ensures ok { OnOk result (self.new
+            ≡ set.insert_all self.old (removed.now ++ announced.now)) }
+        ensures changed { OnOk result (other.new
+            ≡ put_all (remove_all other.old removed.now)
+            (map (λ r. (r.prefix, r.value)) added.items)) }
+        ensures err { OnErr result (self.new ≡ self.old) }
+        ensures err_changed { OnErr result (other.new ≡ other.old) }
+    {
+        self.rows.reserve(removed.len() + announced.len())?;
+        other.change(removed, added)?;
+        note_all(&mut self.rows, removed);
+        note_all(&mut self.rows, announced);
         Ok(())
     }
 }
@@ -158,5 +230,105 @@ where
             Ok(())
         }
         Err(at) => Ok(rows.insert(at, Row { prefix, value })?),
+    }
+}
+
+// Takes out the row of a prefix, where there is one.
+fn take_out<V>(rows: &mut Vec<Row<V>>, prefix: &Prefix)
+where
+    V: Drop,
+    requires { T (is_sorted prefix_cmp (map (λ r. (r.prefix, r.value)) rows.old.items)) }
+    ensures sorted { T (is_sorted prefix_cmp (map (λ r. (r.prefix, r.value)) rows.new.items)) }
+    ensures value { from_sorted {R = prefix_cmp} (map (λ r. (r.prefix, r.value)) rows.new.items)
+        ≡ fin.remove (from_sorted (map (λ r. (r.prefix, r.value)) rows.old.items)) prefix.now }
+    ensures length { vec_len rows.new ≤ vec_len rows.old }
+    ensures capacity { vec_capacity rows.old ≤ vec_capacity rows.new }
+{
+    if let Ok(at) = place(rows, prefix) {
+        rows.remove(at);
+    }
+}
+
+// How many of the first rows are those of the first prefixes, one after the other.
+fn shared_front<V>(rows: &[Row<V>], prefixes: &[Prefix]) -> usize
+    ensures within_rows { result ≤ length rows.now }
+    ensures within_prefixes { result ≤ length prefixes.now }
+    ensures same { map (λ r. r.prefix) (take result rows.now) ≡ take result prefixes.now }
+{
+    let most = rows.len().min(prefixes.len());
+    for place in 0..most {
+        if rows[place].prefix != prefixes[place] {
+            return place;
+        }
+    }
+    most
+}
+
+// Takes out those of the first rows that are those of the first prefixes, all at once. Says how
+// many they are.
+fn take_front_out<V>(rows: &mut Vec<Row<V>>, prefixes: &[Prefix]) -> usize
+where
+    V: Drop,
+    requires { T (is_sorted prefix_cmp (map (λ r. (r.prefix, r.value)) rows.old.items)) }
+    ensures sorted { T (is_sorted prefix_cmp (map (λ r. (r.prefix, r.value)) rows.new.items)) }
+    ensures value { from_sorted {R = prefix_cmp} (map (λ r. (r.prefix, r.value)) rows.new.items)
+        ≡ remove_all (from_sorted (map (λ r. (r.prefix, r.value)) rows.old.items))
+        (take result prefixes.now) }
+    ensures within { result ≤ length prefixes.now }
+    ensures length { vec_len rows.new ≤ vec_len rows.old }
+    ensures capacity { vec_capacity rows.old ≤ vec_capacity rows.new }
+{
+    let front = shared_front(rows, prefixes);
+    rows.rotate_left(front);
+    rows.truncate(rows.len() - front);
+    front
+}
+
+// Takes out the rows of these prefixes. A long run of them in front takes one pass over the rows.
+fn take_all_out<V>(rows: &mut Vec<Row<V>>, prefixes: &[Prefix])
+where
+    V: Drop,
+    requires { T (is_sorted prefix_cmp (map (λ r. (r.prefix, r.value)) rows.old.items)) }
+    ensures sorted { T (is_sorted prefix_cmp (map (λ r. (r.prefix, r.value)) rows.new.items)) }
+    ensures value { from_sorted {R = prefix_cmp} (map (λ r. (r.prefix, r.value)) rows.new.items)
+        ≡ remove_all (from_sorted (map (λ r. (r.prefix, r.value)) rows.old.items)) prefixes.now }
+    ensures length { vec_len rows.new ≤ vec_len rows.old }
+    ensures capacity { vec_capacity rows.old ≤ vec_capacity rows.new }
+{
+    let front = take_front_out(rows, prefixes);
+    for prefix in &prefixes[front..] {
+        take_out(rows, prefix);
+    }
+}
+
+// Puts each of these rows in, for which there is room.
+fn put_all_in<V>(rows: &mut Vec<Row<V>>, added: Vec<Row<V>>)
+where
+    V: Drop,
+    requires sorted { T (is_sorted prefix_cmp (map (λ r. (r.prefix, r.value)) rows.old.items)) }
+    requires room { vec_len rows.old + vec_len added ≤ vec_capacity rows.old }
+    ensures sorted { T (is_sorted prefix_cmp (map (λ r. (r.prefix, r.value)) rows.new.items)) }
+    ensures value { from_sorted {R = prefix_cmp} (map (λ r. (r.prefix, r.value)) rows.new.items)
+        ≡ put_all (from_sorted (map (λ r. (r.prefix, r.value)) rows.old.items))
+        (map (λ r. (r.prefix, r.value)) added.items) }
+{
+    for row in added {
+        put(rows, row.prefix, row.value).unwrap();
+    }
+}
+
+// Puts each of these prefixes in, for which there is room.
+fn note_all(rows: &mut Vec<Row<()>>, prefixes: &[Prefix])
+    requires sorted { T (is_sorted prefix_cmp (map (λ r. (r.prefix, r.value)) rows.old.items)) }
+    requires room { vec_len rows.old + length prefixes.now ≤ vec_capacity rows.old }
+    ensures sorted { T (is_sorted prefix_cmp (map (λ r. (r.prefix, r.value)) rows.new.items)) }
+    ensures value { from_sorted {R = prefix_cmp} (map (λ r. (r.prefix, r.value)) rows.new.items)
+        ≡ set.insert_all (from_sorted (map (λ r. (r.prefix, r.value)) rows.old.items))
+        prefixes.now }
+    ensures length { vec_len rows.new ≤ vec_len rows.old + length prefixes.now }
+    ensures capacity { vec_capacity rows.old ≤ vec_capacity rows.new }
+{
+    for prefix in prefixes {
+        put(rows, *prefix, ()).unwrap();
     }
 }

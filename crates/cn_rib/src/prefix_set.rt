@@ -1,10 +1,12 @@
 //! Sets of prefixes.
 
-ghost use Rattle.std.specs.Prelude.{◌≡◌, ◌==◌, IfOk, OnOk, OnErr};
+ghost use Rattle.std.specs.Prelude.{◌≡◌, ◌==◌, ◌++◌, IfOk, OnOk, OnErr, map};
+ghost use Rattle.std.specs.List.{fold};
 ghost use Rattle.std.specs.FinMap as fin;
+ghost use Rattle.cn_rib.specs.PrefixMaps.{put_all, remove_all};
 ghost use Rattle.cn_rib.specs.PrefixSet as set;
 
-use crate::prefix_map::PrefixMap;
+use crate::prefix_map::{PrefixMap, Row};
 use cn_base::Prefix;
 use std::alloc::{AllocError, Global};
 use std::marker::Model;
@@ -70,6 +72,13 @@ impl PrefixSet {
         }
     }
 
+    /// The prefixes as rows, in ascending order.
+    pub fn rows(&self) -> &[Row<()>]
+        ensures { map (λ r. r.prefix) result.now ≡ fin.keys self.now }
+    {
+        self.map.rows()
+    }
+
     /// Puts a prefix in. It takes no memory where the prefix is in the set.
     pub fn insert(&mut self, prefix: Prefix) -> Result<(), AllocError>
         ensures ok { OnOk result (self.new ≡ set.insert self.old prefix) }
@@ -83,6 +92,43 @@ impl PrefixSet {
         ensures { self.new ≡ set.remove self.old prefix.now }
     {
         self.map.remove(prefix);
+    }
+
+    /// Takes each of these prefixes out. A prefix that isn't in the set changes nothing.
+    pub fn remove_all(&mut self, prefixes: &[Prefix])
+        ensures { self.new ≡ fold set.remove self.old prefixes.now }
+    {
+        self.map.remove_all(prefixes);
+    }
+
+    /// Puts in each of these prefixes. It takes all memory before the first.
+    pub fn insert_each(&mut self, prefixes: &[Prefix]) -> Result<(), AllocError>
+        ensures ok { OnOk result (self.new ≡ set.insert_all self.old prefixes.now) }
+        ensures err { OnErr result (self.new ≡ self.old) }
+    {
+        self.map.insert_each(prefixes)
+    }
+
+    // Changes a map, and puts in each prefix of two lists. All memory is taken before the first
+    // change.
+    pub(crate) fn note_change<V>(
+        &mut self,
+        other: &mut PrefixMap<V>,
+        removed: &[Prefix],
+        announced: &[Prefix],
+        added: Vec<Row<V>>,
+    ) -> Result<(), AllocError>
+    where
+        V: Drop,
+        ensures ok { OnOk result (self.new
+            ≡ set.insert_all self.old (removed.now ++ announced.now)) }
+        ensures changed { OnOk result (other.new
+            ≡ put_all (remove_all other.old removed.now)
+            (map (λ r. (r.prefix, r.value)) added.items)) }
+        ensures err { OnErr result (self.new ≡ self.old) }
+        ensures err_changed { OnErr result (other.new ≡ other.old) }
+    {
+        self.map.note_change(other, removed, announced, added)
     }
 
     /// Puts in each prefix of a map. It takes all memory before the first.

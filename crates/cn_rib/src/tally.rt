@@ -65,16 +65,34 @@ impl Tally {
         self.counts[slot as usize]
     }
 
+    /// Sets how much there is in a slot, which must be below `slots`.
+    pub fn set(&mut self, slot: u32, count: u128)
+        requires { slot < length self.old }
+        ensures { self.new ≡ slice_set self.old slot count }
+    {
+        let slot = slot as usize;
+        let was = self.counts[slot];
+        self.counts[slot] = count;
+        if was == 0 {
+            if count != 0 {
+                bits::set(&mut self.words, slot);
+                bits::set(&mut self.tops, slot / WORD);
+            }
+        } else if count == 0 {
+            bits::clear(&mut self.words, slot);
+            if self.words[slot / WORD] == 0 {
+                bits::clear(&mut self.tops, slot / WORD);
+            }
+        }
+    }
+
     /// Adds one to a slot, which must be below `slots` and may not be full.
     pub fn add(&mut self, slot: u32)
         requires there { slot < length self.old }
         requires room { slice_index self.old slot < u128.MAX }
         ensures { self.new ≡ slice_set self.old slot (slice_index self.old slot + 1) }
     {
-        let slot = slot as usize;
-        self.counts[slot] += 1;
-        bits::set(&mut self.words, slot);
-        bits::set(&mut self.tops, slot / WORD);
+        self.set(slot, self.count(slot) + 1);
     }
 
     /// Takes one from a slot, which must be below `slots` and have something.
@@ -83,15 +101,7 @@ impl Tally {
         requires some { slice_index self.old slot ≢ 0 }
         ensures { self.new ≡ slice_set self.old slot (slice_index self.old slot - 1) }
     {
-        let slot = slot as usize;
-        let left = self.counts[slot] - 1;
-        self.counts[slot] = left;
-        if left == 0 {
-            bits::clear(&mut self.words, slot);
-            if self.words[slot / WORD] == 0 {
-                bits::clear(&mut self.tops, slot / WORD);
-            }
-        }
+        self.set(slot, self.count(slot) - 1);
     }
 
     /// The least slot that has something. None comes exactly where no slot has.

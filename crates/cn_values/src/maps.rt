@@ -1,6 +1,7 @@
 //! What maps and sets of prefixes hold.
 
 use crate::words::{prefix, same};
+use cn_base::Prefix;
 use cn_rib::{PrefixMap, PrefixSet};
 use std::alloc::Global;
 use std::test::Fail;
@@ -143,6 +144,51 @@ fn copy_told(alloc: Global, rows: &[Bits], takes_map: bool) -> Result<String, Fa
     set_told(alloc, &copy, &set)
 }
 
+// A case, prefixes that are put in and prefixes that are taken out again, and the lengths of those
+// that are left, in the order of the prefixes.
+const CHANGES: &[(&str, &[Bits], &[Bits], &str)] = &[
+    ("rows ascend", &[TEN_ONE, TEN, DEFAULT, TEN], &[], " 0 8 16"),
+    (
+        "the first go",
+        &[DEFAULT, TEN, TEN_ZERO, TEN_ONE],
+        &[DEFAULT, TEN],
+        " 16 16",
+    ),
+    (
+        "the first and a later one go",
+        &[DEFAULT, TEN, TEN_ZERO, TEN_ONE],
+        &[DEFAULT, TEN_ONE],
+        " 8 16",
+    ),
+    (
+        "those out of order go",
+        &[DEFAULT, TEN, TEN_ONE],
+        &[TEN_ONE, DEFAULT, DEFAULT],
+        " 8",
+    ),
+    ("others stay", &[TEN], &[DEFAULT, ELEVEN], " 8"),
+    ("all go", &[TEN, ELEVEN], &[TEN, ELEVEN], ""),
+];
+
+fn list(alloc: Global, rows: &[Bits]) -> Result<Vec<Prefix>, Fail> {
+    let mut list = Vec::new(alloc);
+    for bits in rows {
+        list.push(prefix(*bits)?)?;
+    }
+    Ok(list)
+}
+
+fn changed(alloc: Global, added: &[Bits], removed: &[Bits]) -> Result<String, Fail> {
+    let mut set = PrefixSet::new(alloc);
+    set.insert_each(&list(alloc, added)?)?;
+    set.remove_all(&list(alloc, removed)?);
+    let mut text = String::new(alloc);
+    for row in set.rows() {
+        text.push_str(&format!(in alloc; " {}", row.prefix.len())?)?;
+    }
+    Ok(text)
+}
+
 #[test]
 fn maps_and_sets_hold(rt: HostRuntime) -> Result<(), Fail> {
     for (case, steps, text) in MAPS {
@@ -153,6 +199,9 @@ fn maps_and_sets_hold(rt: HostRuntime) -> Result<(), Fail> {
     }
     for (case, rows, takes_map, text) in SETS {
         same(&rt, case, &copy_told(rt.alloc(), rows, *takes_map)?, text);
+    }
+    for (case, added, removed, text) in CHANGES {
+        same(&rt, case, &changed(rt.alloc(), added, removed)?, text);
     }
     Ok(())
 }

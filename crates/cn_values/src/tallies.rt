@@ -88,6 +88,63 @@ fn firsts(alloc: Global, slots: u32, places: &[u32]) -> Result<String, Fail> {
     Ok(text)
 }
 
+// A case, how many slots, what is set one after the other, each with its slot, and the slot that
+// comes first in the end with its count.
+const SETTINGS: &[(&str, u32, &[(u32, u128)], &str)] = &[
+    ("nothing to nothing", 3, &[(1, 0)], "none"),
+    ("a count", 65, &[(64, 7)], "64: 7"),
+    ("another count", 65, &[(64, 7), (64, 9)], "64: 9"),
+    ("no more", 65, &[(64, 7), (64, 0)], "none"),
+    (
+        "no more beside another of its word",
+        4097,
+        &[(64, 7), (127, 1), (64, 0)],
+        "127: 1",
+    ),
+    (
+        "no more beside another of its top",
+        4097,
+        &[(4096, 1), (64, 7), (64, 0)],
+        "4096: 1",
+    ),
+    (
+        "the greatest",
+        1,
+        &[(0, u128::MAX)],
+        "0: 340282366920938463463374607431768211455",
+    ),
+];
+
+fn set(alloc: Global, slots: u32, settings: &[(u32, u128)]) -> Result<Tally, Fail> {
+    let mut tally = Tally::new(alloc, slots)?;
+    for (slot, count) in settings {
+        let (slot, count) = (*slot, *count);
+        if slot < tally.slots() {
+            tally.set(slot, count);
+        }
+    }
+    Ok(tally)
+}
+
+fn first_told(alloc: Global, tally: &Tally) -> Result<String, Fail> {
+    match tally.first() {
+        Some(slot) if slot < tally.slots() => {
+            Ok(format!(in alloc; "{slot}: {}", tally.count(slot))?)
+        }
+        _ => Ok(String::from_str(alloc, "none")?),
+    }
+}
+
+#[test]
+fn slots_are_set(rt: HostRuntime) -> Result<(), Fail> {
+    let alloc = rt.alloc();
+    for (case, slots, settings, text) in SETTINGS {
+        let tally = set(alloc, *slots, settings)?;
+        same(&rt, case, &first_told(alloc, &tally)?, text);
+    }
+    Ok(())
+}
+
 #[test]
 fn the_least_slot_comes_first(rt: HostRuntime) -> Result<(), Fail> {
     for (case, slots, places, text) in CASES {
