@@ -45,59 +45,65 @@ unfolding usable
 usable_refused net d a r e = ap (λ t. cond t (Some (choice_from a r)) None) e
 
 module _ (s : CoreState) (d : DeviceId) (p : Cidr) (a : DeviceId) where
-  came_some : (x : Attributes) → Some x ≡ fin.get (session s a d).came p
+  came_some : (x : Attributes) → Some x ≡ fin.get (session s a d).adj_rib_in p
       → Some (route_with p x) ≡ came_at s d p a
   unfolding came_at
   came_some x e = ap (option_map (route_with p)) e
 
-  came_none : None ≡ fin.get (session s a d).came p → None ≡ came_at s d p a
+  came_none : None ≡ fin.get (session s a d).adj_rib_in p → None ≡ came_at s d p a
   unfolding came_at
   came_none e = ap (option_map (route_with p)) e
 
   -- the best so far with what may be used of what came in
   abbrev pub with_came : Option (Ranked Choice) → Option (Ranked Choice)
   with_came best =
-      better best (option_map (with_rank (rank_of s.net)) (usable s.net d a (came_at s d p a)))
+      better best
+      (option_map (with_rank (rank_of s.now.net)) (usable s.now.net d a (came_at s d p a)))
 
-  adds_nothing : (best : Option (Ranked Choice)) → usable s.net d a (came_at s d p a) ≡ None
+  adds_nothing : (best : Option (Ranked Choice)) → usable s.now.net d a (came_at s d p a) ≡ None
       → best ≡ with_came best
   adds_nothing best e =
-      sym (ap (λ o. better best (option_map (with_rank (rank_of s.net)) o)) e
+      sym (ap (λ o. better best (option_map (with_rank (rank_of s.now.net)) o)) e
       ∙ better_by_none (λ r. r.rank) best)
 
   -- where nothing came in
-  pub better-came_none : (best : Option (Ranked Choice)) → None ≡ fin.get (session s a d).came p
+  pub better-came_none : (best : Option (Ranked Choice))
+      → None ≡ fin.get (session s a d).adj_rib_in p
       → best ≡ with_came best
   better-came_none best e =
       adds_nothing best
-      (ap (usable s.net d a) (sym (came_none e)) ∙ deciding.usable-none s.net d a)
+      (ap (usable s.now.net d a) (sym (came_none e)) ∙ deciding.usable-none s.now.net d a)
 
   -- where what came in isn't accepted
   pub better-refused : (best : Option (Ranked Choice)) (x : Attributes)
-      → Some x ≡ fin.get (session s a d).came p → accept s.net d a (route_with p x) ≡ false
+      → Some x ≡ fin.get (session s a d).adj_rib_in p
+      → accept s.now.net d a (route_with p x) ≡ false
       → best ≡ with_came best
   better-refused best x e f =
       adds_nothing best
-      (ap (usable s.net d a) (sym (came_some x e)) ∙ usable_refused s.net d a (route_with p x) f)
+      (ap (usable s.now.net d a) (sym (came_some x e))
+      ∙ usable_refused s.now.net d a (route_with p x) f)
 
   -- where it is accepted
   pub better-accepted : (best more : Option (Ranked (DeviceId × Bor Attributes)))
       (x : Bor Attributes) (rank : Rank)
-      → Some x.now ≡ fin.get (session s a d).came p → accept s.net d a (route_with p x.now) ≡ true
-      → rank ≡ rank_of s.net (choice_with a x.now)
+      → Some x.now ≡ fin.get (session s a d).adj_rib_in p
+      → accept s.now.net d a (route_with p x.now) ≡ true
+      → rank ≡ rank_of s.now.net (choice_with a x.now)
       → more ≡ better best (Some (record { rank = rank; item = (a, x) }))
       → learnt_choice more ≡ with_came (learnt_choice best)
   better-accepted best more x rank e t r is =
       let next : Rank → Option (Ranked Choice) =
       λ q. Some (record { rank = q; item = choice_with a x.now }) in
-      let used : usable s.net d a (came_at s d p a) ≡ Some (choice_with a x.now) =
-      ap (usable s.net d a) (sym (came_some x.now e))
-      ∙ usable_accepted s.net d a (route_with p x.now) t in
+      let used : usable s.now.net d a (came_at s d p a) ≡ Some (choice_with a x.now) =
+      ap (usable s.now.net d a) (sym (came_some x.now e))
+      ∙ usable_accepted s.now.net d a (route_with p x.now) t in
       ap learnt_choice is
       ∙ on_item-better (λ y. choice_with y.0 y.1.now) best
       (Some (record { rank = rank; item = (a, x) }))
       ∙ ap (λ q. better (learnt_choice best) (next q)) r
-      ∙ sym (ap (λ o. better (learnt_choice best) (option_map (with_rank (rank_of s.net)) o)) used)
+      ∙ sym (ap (λ o. better (learnt_choice best)
+      (option_map (with_rank (rank_of s.now.net)) o)) used)
 
 -- ---- one after another
 
@@ -106,17 +112,17 @@ came_nowhere : (s : CoreState) (d : DeviceId) (p : Cidr) (a : DeviceId)
     → has_session s d a ≡ false → came_at s d p a ≡ None
 unfolding came_at session
 came_nowhere s d p a e =
-    ap (λ o. option_map (route_with p) (fin.get (unwrap_or o (empty_session a d)).came p))
+    ap (λ o. option_map (route_with p) (fin.get (unwrap_or o (empty_session a d)).adj_rib_in p))
     (None-from_is_some (find (is_session a d) s.sessions) e)
     ∙ ap (option_map (route_with p)) (get_empty p)
 
 -- the senders of the sessions into a device, in order
 pub senders_are : (s : CoreState) → IsWhole s → (d : DeviceId)
     → map (sender_at (ends_of s.sessions)) (places_into (ends_of s.sessions) d)
-    ≡ filter (has_session s d) (device_ids s.net)
+    ≡ filter (has_session s d) (device_ids s.now.net)
 senders_are s w d =
-    senders_into (ends_of s.sessions) d s.net (has_session s d) w.ascending
-    (All-map (λ (e : SessionEnds). IsDevice s.net e.from) ends s.sessions
+    senders_into (ends_of s.sessions) d s.now.net (has_session s d) w.ascending
+    (All-map (λ (e : SessionEnds). IsDevice s.now.net e.from) ends s.sessions
     (λ k x lt. (w.within k x lt).0))
     (λ a. session-from_is_some a d s.sessions) (λ a. is_some-session a d s.sessions)
 
@@ -138,17 +144,17 @@ learnt_more s d p index places i best next a within sender is =
 
 -- an own route is decided
 pub own_decided : (s : CoreState) (d : DeviceId) (p : Cidr) (o : Origin)
-    → Some o ≡ own_origin s.net d p
-    → Some (record { from = None; path = []; origin = o }) ≡ best_of s.net (came_at s d p) d p
-own_decided s d p o e = deciding.own_decided s.net (came_at s d p) d p o e
+    → Some o ≡ own_origin s.now.net d p
+    → Some (record { from = None; path = []; origin = o }) ≡ best_of s.now.net (came_at s d p) d p
+own_decided s d p o e = deciding.own_decided s.now.net (came_at s d p) d p o e
 
 -- else the best of what came in and is accepted
-pub learnt_decided : (s : CoreState) (d : DeviceId) (p : Cidr) → None ≡ own_origin s.net d p
+pub learnt_decided : (s : CoreState) (d : DeviceId) (p : Cidr) → None ≡ own_origin s.now.net d p
     → (best : Option (Ranked (DeviceId × Bor Attributes)))
     → learnt_choice best
-    ≡ fold (λ x a. with_came s d p a x) None (filter (has_session s d) (device_ids s.net))
+    ≡ fold (λ x a. with_came s d p a x) None (filter (has_session s d) (device_ids s.now.net))
     → option_map (λ (r : Ranked Choice). r.item) (learnt_choice best)
-    ≡ best_of s.net (came_at s d p) d p
+    ≡ best_of s.now.net (came_at s d p) d p
 learnt_decided s d p e best is =
-    deciding.learnt_among s.net (came_at s d p) d p (has_session s d) (came_nowhere s d p) e
+    deciding.learnt_among s.now.net (came_at s d p) d p (has_session s d) (came_nowhere s d p) e
     (learnt_choice best) is

@@ -12,20 +12,19 @@ use Rattle.cn_net.specs.Sessions.{Ascend}
 use Rattle.cn_record.specs.Recorded.{RecordedOpening}
 use Rattle.cn_core.specs.declared.event.Event.{Event}
 use Rattle.cn_core.specs.declared.event.Event.TheVariants.{Decide, Send}
-use Rattle.cn_core.specs.declared.session.Session.{Session}
 use Rattle.cn_core.specs.Laws.{FirstLaw, IsKept}
 use Rattle.cn_core.specs.Machine.{can, state}
 use Rattle.cn_core.specs.Order.{IsQuiet, device_event, first_event, first_of, first_pending, has_mail, is_pending, owes_from, receive_over, send_over}
 use Rattle.cn_core.specs.Owed.{owes}
 use Rattle.cn_core.specs.Start.{ends_of}
-use Rattle.cn_core.specs.State.{CoreState, rib, session}
+use Rattle.cn_core.specs.State.{CoreState, SessionState, rib, session}
 use Rattle.cn_core.proofs.Access.{and_parts}
 use Rattle.cn_core.proofs.Kept.{run_holds}
 use Rattle.cn_core.proofs.Searches.{apart, found_apart, found_one, found_passes, none_passes, session_found}
 use Rattle.cn_core.proofs.Stands.{quiet_stands, stands_quiet}
 
 -- a session that owes, where there is no mail, can send
-can_send : (s : CoreState) (d : DeviceId) (x : Session) → Ascend (ends_of s.sessions)
+can_send : (s : CoreState) (d : DeviceId) (x : SessionState) → Ascend (ends_of s.sessions)
     → find has_mail s.sessions ≡ None → find (owes_from s d) s.sessions ≡ Some x
     → IsTrue (can s (Send x.from x.to))
 can_send s d x apart none e =
@@ -39,7 +38,7 @@ can_send s d x apart none e =
     ap (λ o. is_some o &&
     (owes s (session s x.from x.to) && nat_lt (length (session s x.from x.to).mail) 64))
     (found_apart (owes_from s d) s.sessions x apart e)
-    ∙ ap (λ (y : Session). owes s y && nat_lt (length y.mail) 64) at
+    ∙ ap (λ (y : SessionState). owes s y && nat_lt (length y.mail) 64) at
     ∙ ap (λ b. b && nat_lt (length x.mail) 64) some ∙ room (length x.mail) empty
   where
     room : (l : ℕ) → nat_lt 0 l ≡ false → nat_lt l 64 ≡ true
@@ -63,12 +62,12 @@ enabled_at s d None e apart none l is =
     ] refl is
 
 enabled : (s : CoreState) (e : Event) → Ascend (ends_of s.sessions)
-    → (o : Option Session) (d : Option DeviceId) → find has_mail s.sessions ≡ o
+    → (o : Option SessionState) (d : Option DeviceId) → find has_mail s.sessions ≡ o
     → first_of s o d ≡ Some e → IsTrue (can s e)
 enabled s e apart (Some x) d f is =
     let same : receive_over x ≡ e = cc in
     subst (λ e. IsTrue (can s e)) same
-    (ap (λ (y : Session). nat_lt 0 (length y.mail)) (session_found has_mail s x apart f)
+    (ap (λ (y : SessionState). nat_lt 0 (length y.mail)) (session_found has_mail s x apart f)
     ∙ found_passes has_mail s.sessions x f)
 enabled s e apart None (Some d) f is =
     enabled_at s d (prefixes.least (rib s d).dirty) e apart f refl is
@@ -92,12 +91,12 @@ has_event s d None h e =
       | Some x ↦ λ h e. cc
     ] h e
 
-no_first : (s : CoreState) (o : Option Session) (d : Option DeviceId) → first_pending s ≡ d
+no_first : (s : CoreState) (o : Option SessionState) (d : Option DeviceId) → first_pending s ≡ d
     → first_of s o d ≡ None → (o ≡ None) × (d ≡ None)
 no_first s (Some x) d p e = cc
 no_first s None (Some d) p e =
     absurd (has_event s d (prefixes.least (rib s d).dirty)
-    (found_passes (is_pending s) (device_ids s.net) d p) e)
+    (found_passes (is_pending s) (device_ids s.now.net) d p) e)
 no_first s None None p e = (refl, refl)
 
 pub first_none : (r : RecordedOpening) (s : CoreState) → IsKept r s
@@ -112,6 +111,6 @@ first_none r s k = (
 
 pub first_holds : FirstLaw
 first_holds = record {
-  enabled = λ r h e run is. first_enabled r (state r h) e (run_holds r h run) is;
-  none = λ r h run. first_none r (state r h) (run_holds r h run);
+  enabled = λ r h e run is. first_enabled r (state r h) e (run_holds.kept r h run) is;
+  none = λ r h run. first_none r (state r h) (run_holds.kept r h run);
 }

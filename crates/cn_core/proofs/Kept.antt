@@ -1,20 +1,22 @@
 -- What every step keeps.
-use Rattle.std.proofs.Common.{◌≡◌, ◌≢◌, ◌<◌, ◌≤◌, true, false, cond, not, List, [], ◌∷◌, ◌++◌, length, Option, Some, None, refl, sym, ap, ◌∙◌, subst, inl, inr, arith, true≢false}
+use Rattle.std.proofs.Common.{◌≡◌, ◌≢◌, ℕ, ◌<◌, ◌≤◌, true, false, cond, not, List, [], ◌∷◌, length, Option, Some, None, Result, Ok, Err, refl, sym, ap, ◌∙◌, subst, inl, inr, arith, true≢false}
 use Rattle.std.specs.Prelude.{◌&&◌, ◌⊎◌, All, IsTrue, unwrap_or}
 use Rattle.std.specs.List.{find, fold}
-use Rattle.std.specs.FinMap.{FinMap}
 use Rattle.std.specs.FinMap as fin
 use Rattle.std.proofs.lemmas.Bool.{cases_lt}
 use Rattle.std.proofs.lemmas.Bool.Decides.{nat_tests}
 use Rattle.std.proofs.lemmas.List.{length-append, length-set}
-use Rattle.cn_base.specs.Cidr.{Cidr, same_prefix}
-use Rattle.cn_base.specs.Table.{prefix_cmp}
+use Rattle.cn_base.specs.Cidr.{Cidr}
 use Rattle.cn_base.specs.declared.ids.DeviceId.{DeviceId}
 use Rattle.cn_base.specs.declared.route.Choice.{Choice}
 use Rattle.cn_rib.specs.PrefixMaps.{put_at}
 use Rattle.cn_rib.specs.PrefixSet as prefixes
-use Rattle.cn_base.specs.declared.route.Attributes.{Attributes}
-use Rattle.cn_rib.proofs.Keyed.{contains-empty, contains-remove, inserted_elsewhere, not_inserted, removed_elsewhere}
+use Rattle.cn_rib.proofs.Keyed.{contains-empty, contains-remove, not_inserted_all}
+use Rattle.cn_rib.specs.Updates.{prefixes_of}
+use Rattle.cn_rib.proofs.Updates.{applied_elsewhere}
+use Rattle.cn_wire.specs.Reading.{update_of}
+use Rattle.cn_wire.specs.declared.fault.WireFault.{WireFault}
+use Rattle.cn_wire.specs.declared.update.Update.{Update}
 use Rattle.cn_rib.proofs.PrefixMaps.{get-put_at}
 use Rattle.cn_rib.proofs.Prefixes.{same_tells}
 use Rattle.cn_net.specs.Candidates.{best_of}
@@ -29,107 +31,65 @@ use Rattle.cn_record.specs.Recorded.{RecordedOpening}
 use Rattle.cn_core.specs.declared.event.Event.TheVariants.{Receive, Decide, Send}
 use Rattle.cn_core.specs.declared.event.Step.{Step}
 use Rattle.cn_core.specs.declared.event.Step.TheVariants.{Work, Mark}
-use Rattle.cn_core.specs.declared.message.Message.{Message}
-use Rattle.cn_core.specs.declared.message.Message.TheVariants.{Withdraw, Announce}
-use Rattle.cn_core.specs.declared.session.Rib.{Rib}
-use Rattle.cn_core.specs.declared.session.Session.{Session}
 use Rattle.cn_core.specs.Laws.{CleanIsDecided, IsKept, IsSpeaking, RunLaw, SpeakersSay, held_in}
-use Rattle.cn_core.specs.Machine.{IsEnabled, IsRun, IsRunFrom, came_at, can, decide, put_out, receive, send, with_dirty, state, step, taken_in, with_rib, with_session}
-use Rattle.cn_core.specs.Owed.{next_message, owed_by}
+use Rattle.cn_core.specs.Machine.{IsEnabled, IsRun, IsRunFrom, came_at, can, decide, put_out, receive, state, step, take_in, taken_in, with_dirty, with_rib, with_session}
+use Rattle.cn_core.specs.Owed.{message_by}
 use Rattle.cn_core.specs.Start.{ends_of, start}
-use Rattle.cn_core.specs.State.{CoreState, apply, apply_all, empty_session, is_session, prefix_of, rib, session}
-use Rattle.cn_core.proofs.Access.{KeepsEnds, all_at_first, all_by_ends, came_kept, came_of_rib, ends_are, ends_kept, found_has, found_is, rib_of_session, rib_other, rib_past, rib_same}
+use Rattle.cn_core.specs.State.{CoreState, RibState, SessionState, empty_session, is_session, rib, session}
+use Rattle.cn_core.proofs.Access.{KeepsEnds, all_by_ends, all_session, all_sessions, came_kept, came_of_rib, ends_are, ends_kept, found_has, found_is, rib_of_session, rib_other, rib_past, rib_same}
 use Rattle.cn_core.proofs.Opened.{kept_start}
+use Rattle.cn_core.proofs.Transit.{run_carries}
 
--- ---- messages
+-- ---- a receive and a send keep the ends of a session
 
--- a message changes its own prefix alone
-apply_other : (x : FinMap prefix_cmp Attributes) (m : Message) (q : Cidr)
-    → same_prefix q (prefix_of m) ≡ false → fin.get (apply x m) q ≡ fin.get x q
-apply_other x (Withdraw p) q e = removed_elsewhere x p q e
-apply_other x (Announce p h) q e = inserted_elsewhere x p h q e
+taken_ends : (u : Update) (rest : List (List ℕ)) → KeepsEnds (taken_in u rest)
+taken_ends u rest = record { from = λ x. refl; to = λ x. refl }
 
-apply_all_push : (x : FinMap prefix_cmp Attributes) (ms : List Message) (m : Message)
-    → apply_all x (ms ++ m ∷ []) ≡ apply (apply_all x ms) m
-apply_all_push x [] m = refl
-apply_all_push x (y ∷ ys) m = apply_all_push (apply x y) ys m
-
-IsInTransit : Session → Type 0
-IsInTransit x = apply_all x.came x.mail ≡ x.sent
-
-taken_transit : (m : Message) (rest : List Message) (x : Session) → x.mail ≡ m ∷ rest
-    → IsInTransit x → IsInTransit (taken_in m rest x)
-unfolding IsInTransit
-taken_transit m rest x e t = ap (apply_all x.came) (sym e) ∙ t
-
-put_out_transit : (m : Message) (x : Session) → IsInTransit x → IsInTransit (put_out m x)
-unfolding IsInTransit
-put_out_transit m x t = apply_all_push x.came x.mail m ∙ ap (λ c. apply c m) t
-
-taken_ends : (m : Message) (rest : List Message) → KeepsEnds (taken_in m rest)
-taken_ends m rest = record { from = λ x. refl; to = λ x. refl }
-
-put_out_ends : (m : Message) → KeepsEnds (put_out m)
-put_out_ends m = record { from = λ x. refl; to = λ x. refl }
+put_out_ends : (u : Update) → KeepsEnds (put_out u)
+put_out_ends u = record { from = λ x. refl; to = λ x. refl }
 
 -- ---- all that is kept but what is decided and what speakers say
 
 record IsSound (o : Opening) (s : CoreState) : Type 0 where
-  net : s.net ≡ o.net
+  now : s.now ≡ o
   ends : ends_of s.sessions ≡ session_ends o.net o.emulated
   ribs : length s.ribs ≡ length o.net.devices
-  transit : All IsInTransit s.sessions
   few : All (λ x. length x.mail ≤ 64) s.sessions
 
 sound_of : (r : RecordedOpening) (s : CoreState) → IsKept r s → IsSound r.opening s
-unfolding IsInTransit
 sound_of r s k =
-    record { net = k.net; ends = k.ends; ribs = k.ribs; transit = k.transit; few = k.few }
+    record { now = k.now; ends = k.ends; ribs = k.ribs; few = k.few }
 
 kept_of : (r : RecordedOpening) (s : CoreState) → IsSound r.opening s → CleanIsDecided r.opening s
     → SpeakersSay r s → IsKept r s
-unfolding IsInTransit
 kept_of r s k d say = record {
-  net = k.net;
+  now = k.now;
   ends = k.ends;
   ribs = k.ribs;
-  transit = k.transit;
   few = k.few;
   decided = d;
   speakers = say;
 }
 
--- each session keeps P where f does
-all_sessions : (P : Session → Type 0) (s : CoreState) (a b : DeviceId) (f : Session → Session)
-    → ((x : Session) → session s a b ≡ x → P x → P (f x)) → All P s.sessions
-    → All P (with_session s a b f).sessions
-unfolding with_session session
-all_sessions P s a b f keep all =
-    all_at_first P (is_session a b) f s.sessions
-    (λ x e. keep x (ap (λ o. unwrap_or o (empty_session a b)) e)) all
-
 sound_session : (o : Opening) (s : CoreState) → IsSound o s
-    → (a b : DeviceId) (f : Session → Session) → KeepsEnds f
-    → ((y : Session) → session s a b ≡ y → IsInTransit y → IsInTransit (f y))
-    → ((y : Session) → session s a b ≡ y → length y.mail ≤ 64 → length (f y).mail ≤ 64)
+    → (a b : DeviceId) (f : SessionState → SessionState) → KeepsEnds f
+    → ((y : SessionState) → session s a b ≡ y → length y.mail ≤ 64 → length (f y).mail ≤ 64)
     → IsSound o (with_session s a b f)
 unfolding with_session
-sound_session o s k a b f ends transit few = record {
-  net = k.net;
+sound_session o s k a b f ends few = record {
+  now = k.now;
   ends = ends_kept (is_session a b) f ends s.sessions ∙ k.ends;
   ribs = k.ribs;
-  transit = all_sessions IsInTransit s a b f transit k.transit;
   few = all_sessions (λ y. length y.mail ≤ 64) s a b f few k.few;
 }
 
-sound_rib : (o : Opening) (s : CoreState) → IsSound o s → (d : DeviceId) (x : Rib)
+sound_rib : (o : Opening) (s : CoreState) → IsSound o s → (d : DeviceId) (x : RibState)
     → IsSound o (with_rib s d x)
 unfolding with_rib
 sound_rib o s k d x = record {
-  net = k.net;
+  now = k.now;
   ends = k.ends;
   ribs = length-set s.ribs d.0 x ∙ k.ribs;
-  transit = k.transit;
   few = k.few;
 }
 
@@ -146,22 +106,25 @@ within o s e =
     )))
 
 -- a session that has mail stands in the list
-has_session : (a b : DeviceId) (s : CoreState) (m : Message) (rest : List Message)
-    → (session s a b).mail ≡ m ∷ rest → (x : Session) × (find (is_session a b) s.sessions ≡ Some x)
+has_session : (a b : DeviceId) (s : CoreState) (octets : List ℕ) (rest : List (List ℕ))
+    → (session s a b).mail ≡ octets ∷ rest
+    → (x : SessionState) × (find (is_session a b) s.sessions ≡ Some x)
 unfolding session
-has_session a b s m rest e =
+has_session a b s octets rest e =
     elim (find (is_session a b) s.sessions) as
-    (λ o. (unwrap_or o (empty_session a b)).mail ≡ m ∷ rest → (x : Session) × (o ≡ Some x)) [
+    (λ o. (unwrap_or o (empty_session a b)).mail ≡ octets ∷ rest
+    → (x : SessionState) × (o ≡ Some x)) [
       | None ↦ λ e. cc
       | Some x ↦ λ e. (x, refl)
     ] e
 
 receiver_in_range : (r : RecordedOpening) (s : CoreState) → IsKept r s
-    → (a b : DeviceId) (m : Message) (rest : List Message) → (session s a b).mail ≡ m ∷ rest
+    → (a b : DeviceId) (octets : List ℕ) (rest : List (List ℕ))
+    → (session s a b).mail ≡ octets ∷ rest
     → b.0 < length s.ribs
-receiver_in_range r s k a b m rest e =
+receiver_in_range r s k a b octets rest e =
     let net = r.opening.net in
-    let got = has_session a b s m rest e in
+    let got = has_session a b s octets rest e in
     let facts =
     found_has (λ x. IsDevice net x.from × IsDevice net x.to) (is_session a b) s.sessions got.0
     (within r.opening s k.ends) got.1 in
@@ -177,15 +140,22 @@ into_emulated o s e =
 
 -- no mail stands before a device that isn't emulated
 receiver_emulated : (r : RecordedOpening) (s : CoreState) → IsKept r s
-    → (a b : DeviceId) (m : Message) (rest : List Message) → (session s a b).mail ≡ m ∷ rest
+    → (a b : DeviceId) (octets : List ℕ) (rest : List (List ℕ))
+    → (session s a b).mail ≡ octets ∷ rest
     → holds_device r.opening.emulated b ≡ true
-receiver_emulated r s k a b m rest e =
-    let got = has_session a b s m rest e in
+receiver_emulated r s k a b octets rest e =
+    let got = has_session a b s octets rest e in
     let facts =
     found_has (λ x. holds_device r.opening.emulated x.to ≡ true) (is_session a b) s.sessions got.0
     (into_emulated r.opening s k.ends) got.1 in
     subst (λ (z : DeviceId). holds_device r.opening.emulated z ≡ true)
     (ends_are a b got.0 facts.1).1 facts.0
+
+-- ---- a mailbox holds at most 64 messages
+
+pub few_mail : (r : RecordedOpening) (s : CoreState) → IsKept r s → (a b : DeviceId)
+    → length (session s a b).mail ≤ 64
+few_mail r s k a b = all_session (λ x. length x.mail ≤ 64) s a b k.few (omega arith)
 
 -- ---- what is clean is decided
 
@@ -196,38 +166,42 @@ device_tells d e = elim (same_device d e) as (λ t. same_device d e ≡ t → (d
 ] refl
 
 -- where the device d has the best of before for q, and q was clean
-decided_at : (o : Opening) (s t : CoreState) (d : DeviceId) (q : Cidr) (x : Rib) → t.net ≡ s.net
-    → rib t d ≡ x → came_at t d q ≡ came_at s d q → fin.get x.best q ≡ fin.get (rib s d).best q
+decided_at : (o : Opening) (s t : CoreState) (d : DeviceId) (q : Cidr) (x : RibState)
+    → t.now.net ≡ s.now.net
+    → rib t d ≡ x → came_at t d q ≡ came_at s d q
+    → fin.get x.loc_rib q ≡ fin.get (rib s d).loc_rib q
     → (prefixes.contains x.dirty q ≡ false → prefixes.contains (rib s d).dirty q ≡ false)
     → CleanIsDecided o s → holds_device o.emulated d ≡ true
     → prefixes.contains (rib t d).dirty q ≡ false
-    → held_in t d q ≡ best_of t.net (came_at t d q) d q
+    → held_in t d q ≡ best_of t.now.net (came_at t d q) d q
 decided_at o s t d q x net e came best clean k m c =
-    ap (λ (y : Rib). fin.get y.best q) e ∙ best
-    ∙ k d q m (clean (ap (λ (y : Rib). prefixes.contains y.dirty q) (sym e) ∙ c))
-    ∙ ap (λ f. best_of s.net f d q) (sym came) ∙ ap (λ n. best_of n (came_at t d q) d q) (sym net)
+    ap (λ (y : RibState). fin.get y.loc_rib q) e ∙ best
+    ∙ k d q m (clean (ap (λ (y : RibState). prefixes.contains y.dirty q) (sym e) ∙ c))
+    ∙ ap (λ f. best_of s.now.net f d q) (sym came)
+    ∙ ap (λ n. best_of n (came_at t d q) d q) (sym net)
 
-net_of_rib : (s : CoreState) (d : DeviceId) (x : Rib) → (with_rib s d x).net ≡ s.net
+net_of_rib : (s : CoreState) (d : DeviceId) (x : RibState) → (with_rib s d x).now.net ≡ s.now.net
 unfolding with_rib
 net_of_rib s d x = refl
 
-net_of_session : (s : CoreState) (a b : DeviceId) (f : Session → Session)
-    → (with_session s a b f).net ≡ s.net
+net_of_session : (s : CoreState) (a b : DeviceId) (f : SessionState → SessionState)
+    → (with_session s a b f).now.net ≡ s.now.net
 unfolding with_session
 net_of_session s a b f = refl
 
-ribs_of_session : (s : CoreState) (a b : DeviceId) (f : Session → Session)
+ribs_of_session : (s : CoreState) (a b : DeviceId) (f : SessionState → SessionState)
     → (with_session s a b f).ribs ≡ s.ribs
 unfolding with_session
 ribs_of_session s a b f = refl
 
 -- a session changes, and what it changes at its receiver becomes dirty
 module _ (o : Opening) (s : CoreState) (k : CleanIsDecided o s) (a b : DeviceId)
-    (f : Session → Session) (ends : KeepsEnds f) (x : Rib) (inside : b.0 < length s.ribs)
-    (best : x.best ≡ (rib s b).best)
+    (f : SessionState → SessionState) (ends : KeepsEnds f) (x : RibState)
+    (inside : b.0 < length s.ribs)
+    (best : x.loc_rib ≡ (rib s b).loc_rib)
     (soils : (q : Cidr) → prefixes.contains x.dirty q ≡ false
     → (prefixes.contains (rib s b).dirty q ≡ false)
-    × ((y : Session) → fin.get (f y).came q ≡ fin.get y.came q)) where
+    × ((y : SessionState) → fin.get (f y).adj_rib_in q ≡ fin.get y.adj_rib_in q)) where
   decided_touched : CleanIsDecided o (with_rib (with_session s a b f) b x)
   decided_touched d q m c =
       let t = with_session s a b f in
@@ -237,10 +211,10 @@ module _ (o : Opening) (s : CoreState) (k : CleanIsDecided o s) (a b : DeviceId)
             subst (λ l. b.0 < length l) (sym (ribs_of_session s a b f)) inside in
             let at_b : rib (with_rib t b x) d ≡ x =
             ap (rib (with_rib t b x)) same ∙ rib_same t b x in' in
-            let was = soils q (ap (λ (y : Rib). prefixes.contains y.dirty q) (sym at_b) ∙ c) in
+            let was = soils q (ap (λ (y : RibState). prefixes.contains y.dirty q) (sym at_b) ∙ c) in
             decided_at o s (with_rib t b x) d q x (net_of_rib t b x ∙ net_of_session s a b f) at_b
             (came_of_rib t d q b x ∙ came_kept s f ends a b d q (λ y is at. was.1 y))
-            (ap (λ n. fin.get n q) best ∙ ap (λ i. fin.get (rib s i).best q) (sym same))
+            (ap (λ n. fin.get n q) best ∙ ap (λ i. fin.get (rib s i).loc_rib q) (sym same))
             (λ _. ap (λ i. prefixes.contains (rib s i).dirty q) same ∙ was.0) k m c
         | inr other ↦
             decided_at o s (with_rib t b x) d q (rib s d)
@@ -278,29 +252,36 @@ dirty_emulated r s say d p dirty =
 -- ---- a receive
 
 kept_received : (r : RecordedOpening) (s : CoreState) (k : IsKept r s) (a b : DeviceId)
-    (m : Message) (rest : List Message)
-    → (session s a b).mail ≡ m ∷ rest
-    → IsKept r (with_rib (with_session s a b (taken_in m rest)) b (with_dirty (rib s b)
-    (prefix_of m)))
-kept_received r s k a b m rest e =
+    (octets : List ℕ) (rest : List (List ℕ)) (u : Update)
+    → (session s a b).mail ≡ octets ∷ rest
+    → IsKept r (with_rib (with_session s a b (taken_in u rest)) b (with_dirty (rib s b)
+    (prefixes_of u)))
+kept_received r s k a b octets rest u e =
     let o = r.opening in
-    let f = taken_in m rest in
-    let x = with_dirty (rib s b) (prefix_of m) in
-    let mail : (y : Session) → session s a b ≡ y → y.mail ≡ m ∷ rest =
-    λ y is. ap (λ (z : Session). z.mail) (sym is) ∙ e in
+    let f = taken_in u rest in
+    let x = with_dirty (rib s b) (prefixes_of u) in
+    let mail : (y : SessionState) → session s a b ≡ y → y.mail ≡ octets ∷ rest =
+    λ y is. ap (λ (z : SessionState). z.mail) (sym is) ∙ e in
     kept_of r (with_rib (with_session s a b f) b x)
     (sound_rib o (with_session s a b f)
-    (sound_session o s (sound_of r s k) a b f (taken_ends m rest)
-    (λ y is t. taken_transit m rest y (mail y is) t)
-    (λ y is t. let was : y.mail ≡ m ∷ rest = mail y is in omega (arith, ap length was, t))) b x)
-    (decided_touched o s k.decided a b f (taken_ends m rest) x
-    (receiver_in_range r s k a b m rest e) refl
+    (sound_session o s (sound_of r s k) a b f (taken_ends u rest)
+    (λ y is t. let was : y.mail ≡ octets ∷ rest = mail y is in omega (arith, ap length was, t))) b
+    x)
+    (decided_touched o s k.decided a b f (taken_ends u rest) x
+    (receiver_in_range r s k a b octets rest e) refl
     (λ q c.
-    let was = not_inserted (rib s b).dirty (prefix_of m) q c in
-    (was.1, λ y. apply_other y.came m q was.0)))
+    let was = not_inserted_all (rib s b).dirty (prefixes_of u) q c in
+    (was.0, λ y. applied_elsewhere y.adj_rib_in u q was.1)))
     (say_elsewhere r s (with_rib (with_session s a b f) b x) b k.speakers
-    (receiver_emulated r s k a b m rest e)
+    (receiver_emulated r s k a b octets rest e)
     (λ d other. rib_other (with_session s a b f) b d x other ∙ rib_of_session s a b d f))
+
+-- octets that spell no update change nothing
+kept_take_in : (r : RecordedOpening) (s : CoreState) → IsKept r s → (a b : DeviceId)
+    (octets : List ℕ) (rest : List (List ℕ)) → (session s a b).mail ≡ octets ∷ rest
+    → (o : Result Update WireFault) → IsKept r (take_in s a b rest o)
+kept_take_in r s k a b octets rest e (Ok u) = kept_received r s k a b octets rest u e
+kept_take_in r s k a b octets rest e (Err fault) = k
 
 -- ---- a decision
 
@@ -312,18 +293,18 @@ dirty_in_range s d p e =
       | inl in' ↦ in'
       | inr out ↦
           absurd (true≢false
-          (sym e ∙ ap (λ (y : Rib). prefixes.contains y.dirty p) (rib_past s d out)
+          (sym e ∙ ap (λ (y : RibState). prefixes.contains y.dirty p) (rib_past s d out)
           ∙ contains-empty p))
     ]
 
 module _ (o : Opening) (s : CoreState) (k : CleanIsDecided o s) (d : DeviceId) (p : Cidr)
     (e : prefixes.contains (rib s d).dirty p ≡ true) where
   best_at : Option Choice
-  best_at = best_of s.net (came_at s d p) d p
+  best_at = best_of s.now.net (came_at s d p) d p
 
-  result_of : Rib
+  result_of : RibState
   result_of = record {
-    best = put_at (rib s d).best p best_at;
+    loc_rib = put_at (rib s d).loc_rib p best_at;
     dirty = prefixes.remove (rib s d).dirty p;
   }
 
@@ -338,18 +319,19 @@ module _ (o : Opening) (s : CoreState) (k : CleanIsDecided o s) (d : DeviceId) (
             ∙ rib_same s d result_of (dirty_in_range s d p e) in
             elim (same_tells q p) [
               | inl hit ↦
-                  ap (λ (y : Rib). fin.get y.best q) at_d ∙ get-put_at (rib s d).best p best_at q
-                  ∙ ap (λ t. cond t best_at (fin.get (rib s d).best q)) hit.0
-                  ∙ ap (λ z. best_of s.net (came_at s d z) d z) (sym hit.1)
-                  ∙ ap (λ z. best_of s.net (came_at s z q) z q) (sym same)
-                  ∙ ap (λ f. best_of s.net f i q) (sym (came_of_rib s i q d result_of))
+                  ap (λ (y : RibState). fin.get y.loc_rib q) at_d
+                  ∙ get-put_at (rib s d).loc_rib p best_at q
+                  ∙ ap (λ t. cond t best_at (fin.get (rib s d).loc_rib q)) hit.0
+                  ∙ ap (λ z. best_of s.now.net (came_at s d z) d z) (sym hit.1)
+                  ∙ ap (λ z. best_of s.now.net (came_at s z q) z q) (sym same)
+                  ∙ ap (λ f. best_of s.now.net f i q) (sym (came_of_rib s i q d result_of))
                   ∙ ap (λ n. best_of n (came_at (with_rib s d result_of) i q) i q) (sym net)
               | inr miss ↦
                   decided_at o s (with_rib s d result_of) i q result_of net at_d
                   (came_of_rib s i q d result_of)
-                  (get-put_at (rib s d).best p best_at q
-                  ∙ ap (λ t. cond t best_at (fin.get (rib s d).best q)) miss.0
-                  ∙ ap (λ z. fin.get (rib s z).best q) (sym same))
+                  (get-put_at (rib s d).loc_rib p best_at q
+                  ∙ ap (λ t. cond t best_at (fin.get (rib s d).loc_rib q)) miss.0
+                  ∙ ap (λ z. fin.get (rib s z).loc_rib q) (sym same))
                   (λ c. ap (λ z. prefixes.contains (rib s z).dirty q) same
                   ∙ sym (ap (λ t. not t && prefixes.contains (rib s d).dirty q) miss.0)
                   ∙ sym (contains-remove (rib s d).dirty p q) ∙ c)
@@ -373,33 +355,29 @@ kept_decided r s k d p e =
 
 -- ---- a send
 
-kept_sent : (r : RecordedOpening) (s : CoreState) → IsKept r s → (a b : DeviceId) (m : Message)
-    → length (session s a b).mail < 64 → IsKept r (with_session s a b (put_out m))
-kept_sent r s k a b m room =
+kept_send : (r : RecordedOpening) (s : CoreState) → IsKept r s → (a b : DeviceId) (u : Update)
+    → length (session s a b).mail < 64 → IsKept r (with_session s a b (put_out u))
+kept_send r s k a b u room =
     let o = r.opening in
-    let f = put_out m in
+    let f = put_out u in
     kept_of r (with_session s a b f)
-    (sound_session o s (sound_of r s k) a b f (put_out_ends m) (λ y is t. put_out_transit m y t)
+    (sound_session o s (sound_of r s k) a b f (put_out_ends u)
     (λ y is t.
     let was : length y.mail < 64 = subst (λ z. length z.mail < 64) is room in
     simp length-append (omega (arith, was))))
     (λ d q e c. decided_at o s (with_session s a b f) d q (rib s d) (net_of_session s a b f)
-    (rib_of_session s a b d f) (came_kept s f (put_out_ends m) a b d q (λ x is at. refl)) refl
+    (rib_of_session s a b d f) (came_kept s f (put_out_ends u) a b d q (λ x is at. refl)) refl
     (λ z. z) k.decided e c)
     (λ d e. subst (IsSpeaking r d) (sym (rib_of_session s a b d f)) (k.speakers d e))
 
 -- ---- every step
 
 kept_receive : (r : RecordedOpening) (s : CoreState) → IsKept r s
-    → (a b : DeviceId) (ms : List Message) → (session s a b).mail ≡ ms → IsKept r (receive s a b ms)
+    → (a b : DeviceId) (mail : List (List ℕ)) → (session s a b).mail ≡ mail
+    → IsKept r (receive s a b mail)
 kept_receive r s k a b [] e = k
-kept_receive r s k a b (m ∷ rest) e = kept_received r s k a b m rest e
-
-kept_send : (r : RecordedOpening) (s : CoreState) → IsKept r s
-    → (a b : DeviceId) (m : Option Message) → length (session s a b).mail < 64
-    → IsKept r (send s a b m)
-kept_send r s k a b None room = k
-kept_send r s k a b (Some m) room = kept_sent r s k a b m room
+kept_receive r s k a b (octets ∷ rest) e =
+    kept_take_in r s k a b octets rest e (update_of octets)
 
 pub room_to_send : (s : CoreState) (a b : DeviceId) → IsTrue (can s (Send a b))
     → length (session s a b).mail < 64
@@ -410,7 +388,7 @@ pub kept_step : (r : RecordedOpening) (s : CoreState) → IsKept r s → (e : St
 kept_step r s k (Work (Receive a b)) h = kept_receive r s k a b (session s a b).mail refl
 kept_step r s k (Work (Decide d p)) h = kept_decided r s k d p h
 kept_step r s k (Work (Send a b)) h =
-    kept_send r s k a b (next_message (owed_by s (session s a b))) (room_to_send s a b h)
+    kept_send r s k a b (message_by s (session s a b)) (room_to_send s a b h)
 kept_step r s k (Mark i) h = k
 
 pub kept_run : (r : RecordedOpening) (s : CoreState) → IsKept r s → (h : List Step) → IsRunFrom s h
@@ -418,6 +396,10 @@ pub kept_run : (r : RecordedOpening) (s : CoreState) → IsKept r s → (h : Lis
 kept_run r s k [] run = k
 kept_run r s k (e ∷ es) run = kept_run r (step s e) (kept_step r s k e run.0) es run.1
 
+-- the invariants hold of the state after every run
 pub run_holds : RunLaw
 unfolding state IsRun
-run_holds r h run = kept_run r (start r) (kept_start r) h run
+run_holds = record {
+  kept = λ r h run. kept_run r (start r) (kept_start r) h run;
+  carried = run_carries;
+}

@@ -1,5 +1,5 @@
 -- The lists of what sessions owe, after an event.
-use Rattle.std.proofs.Common.{◌≡◌, ℕ, ◌+◌, ◌<◌, ◌≤◌, Bool, true, false, not, List, length, get_or, set, Option, None, refl, sym, ap, ◌∙◌, subst, inl, inr, arith, true≢false}
+use Rattle.std.proofs.Common.{◌≡◌, ℕ, ◌+◌, ◌<◌, ◌≤◌, Bool, true, false, not, List, length, get_or, set, Option, refl, sym, ap, ◌∙◌, subst, inl, inr, arith}
 use Rattle.std.specs.Prelude.{◌&&◌, ◌||◌}
 use Rattle.std.specs.FinMap as fin
 use Rattle.std.proofs.lemmas.Bool.{cases_lt}
@@ -16,11 +16,11 @@ use Rattle.cn_net.specs.Network.{Network}
 use Rattle.cn_core.specs.declared.owed.Due.{Due}
 use Rattle.cn_core.specs.declared.owed.Due.TheVariants.{Nothing, Withdrawal, Announcement}
 use Rattle.cn_core.specs.declared.owed.Owed.{Owed}
-use Rattle.cn_core.specs.declared.session.Session.{Session}
-use Rattle.cn_core.specs.Owed.{LocRib, OwedMap, offered_attributes, unless_sent}
+use Rattle.cn_core.specs.Owed.{OwedMap, offered_attributes, unless_sent}
 use Rattle.cn_core.specs.OwedLists.{AreAdded, AreElsewhere, AreListedBut, AreListedFrom, AreSomeAdded, IsListed, IsListedBut, due_of, due_over, only_due, owed_over, with_due}
 use Rattle.cn_core.proofs.OwedLists.{belongs, contains-with_due, list_of, list_of-listed, listed_where}
 use Rattle.cn_core.proofs.Owes.{decided_owed_holds}
+use Rattle.cn_core.specs.State.{LocRib, SessionState}
 
 -- ---- one session
 
@@ -139,44 +139,27 @@ listed-only_due m p x is =
     there true c h = h refl
     there false c h = refl
 
--- lists are right when the prefix of what is owed no more is taken out
-pub listed-removed : (m : OwedMap) (p : Cidr) (x : Owed) → IsListed m x
-    → IsListed (fin.remove m p) (only_due x p Nothing)
-listed-removed m p x is =
-    let gone : fin.get (fin.remove m p) p ≡ None = get-put_at-there m p None in
-    let but : IsListedBut (fin.remove m p) p x =
-    but_where (fin.remove m p) p x
-    (λ b q other. list_of-listed m x is b q
-    ∙ ap (λ o. belongs b (due_of o)) (sym (get-put_at-elsewhere m p None q other)))
-    (λ b e. absurd (true≢false (sym e ∙ ap (λ o. belongs b (due_of o)) gone ∙ nothing b))) in
-    subst (λ o. IsListed (fin.remove m p) (only_due x p (due_of o))) gone
-    (listed-only_due (fin.remove m p) p x but)
-  where
-    nothing : (b : Bool) → belongs b Nothing ≡ false
-    nothing true = refl
-    nothing false = refl
-
 -- ---- the sessions of one sender
 
-module _ (net : Network) (best : LocRib) (held : Option Choice) (p : Cidr) (xs : List Session)
+module _ (net : Network) (best : LocRib) (held : Option Choice) (p : Cidr) (xs : List SessionState)
     (start end : ℕ) (old new : List Owed) (was : AreListedFrom net best xs start end old) where
-  owed_over-put : (x : Session)
+  owed_over-put : (x : SessionState)
       → owed_over net (put_at best p held) x
       ≡ put_at (owed_over net best x) p
-      (unless_sent (fin.get x.sent p) (offered_attributes net x.from x.to p held))
-  owed_over-put x = decided_owed_holds net x.from x.to x.sent best p held
+      (unless_sent (fin.get x.adj_rib_out p) (offered_attributes net x.from x.to p held))
+  owed_over-put x = decided_owed_holds net x.from x.to x.adj_rib_out best p held
 
   -- after p was put in at each place, the lists are right but for p when the choice is held
   pub but-added : AreAdded net held p xs start end old new
       → AreListedBut net (put_at best p held) p xs start end new
   but-added added = record {
     each = λ k x y ge lt.
-        let u : Session = get_or xs k x in
+        let u : SessionState = get_or xs k x in
         subst (IsListedBut (owed_over net (put_at best p held) u) p) (sym (added.each k x y ge lt))
         (subst (λ m. IsListedBut m p (with_due (get_or old k y) p (due_over net held p u)))
         (sym (owed_over-put u))
         (but-after (owed_over net best u) p (get_or old k y) (was.each k x y ge lt)
-        (unless_sent (fin.get u.sent p) (offered_attributes net u.from u.to p held))));
+        (unless_sent (fin.get u.adj_rib_out p) (offered_attributes net u.from u.to p held))));
   }
 
   -- and after it was put in at some, while it isn't held
@@ -184,7 +167,7 @@ module _ (net : Network) (best : LocRib) (held : Option Choice) (p : Cidr) (xs :
       → AreListedBut net best p xs start end new
   but-some_added added = record {
     each = λ k x y ge lt.
-        let u : Session = get_or xs k x in
+        let u : SessionState = get_or xs k x in
         elim (added.each k x y ge lt) [
           | inl same ↦
               subst (IsListedBut (owed_over net best u) p) (sym same)
@@ -192,7 +175,7 @@ module _ (net : Network) (best : LocRib) (held : Option Choice) (p : Cidr) (xs :
           | inr put ↦
               subst (IsListedBut (owed_over net best u) p) (sym put)
               (but-before (owed_over net best u) p (get_or old k y) (was.each k x y ge lt)
-              (unless_sent (fin.get u.sent p) (offered_attributes net u.from u.to p held)))
+              (unless_sent (fin.get u.adj_rib_out p) (offered_attributes net u.from u.to p held)))
         ];
   }
 
@@ -219,13 +202,13 @@ elsewhere_set start end at old lists new v ge lt is was =
     })
 
 -- what has been done at the places before `at`, and not yet from there on
-pub record IsAddedSoFar (net : Network) (held : Option Choice) (p : Cidr) (xs : List Session)
+pub record IsAddedSoFar (net : Network) (held : Option Choice) (p : Cidr) (xs : List SessionState)
     (start at end : ℕ) (old lists : List Owed) : Type 0 where
   pub added : AreAdded net held p xs start at old lists
   pub rest : (k : ℕ) (y : Owed) → at ≤ k → get_or lists k y ≡ get_or old k y
   pub elsewhere : AreElsewhere start end old lists
 
-pub added_none : (net : Network) (held : Option Choice) (p : Cidr) (xs : List Session)
+pub added_none : (net : Network) (held : Option Choice) (p : Cidr) (xs : List SessionState)
     (start end : ℕ) (old : List Owed) → IsAddedSoFar net held p xs start start end old old
 added_none net held p xs start end old = record {
   added = record { each = λ k x y ge lt. absurd (omega (arith, ge, lt)) };
@@ -233,10 +216,10 @@ added_none net held p xs start end old = record {
   elsewhere = record { many = refl; same = λ k y out. refl };
 }
 
-module _ (net : Network) (held : Option Choice) (p : Cidr) (xs : List Session)
+module _ (net : Network) (held : Option Choice) (p : Cidr) (xs : List SessionState)
     (start at end : ℕ) (old lists : List Owed)
     (is : IsAddedSoFar net held p xs start at end old lists) where
-  pub added_next : (new : List Owed) (x : Session) (y v : Owed) (d : Due)
+  pub added_next : (new : List Owed) (x : SessionState) (y v : Owed) (d : Due)
       → start ≤ at → at < end → at < length lists → at < length xs
       → x ≡ get_or xs at x → y ≡ get_or lists at y → d ≡ due_over net held p x
       → v ≡ with_due y p d → new ≡ set lists at v
@@ -291,20 +274,20 @@ module _ (net : Network) (held : Option Choice) (p : Cidr) (xs : List Session)
         subst (AreElsewhere start end old) (sym same) is.elsewhere,
       )
 
-pub some_added_all : (net : Network) (held : Option Choice) (p : Cidr) (xs : List Session)
+pub some_added_all : (net : Network) (held : Option Choice) (p : Cidr) (xs : List SessionState)
     (start end : ℕ) (old new : List Owed) → AreAdded net held p xs start end old new
     → AreSomeAdded net held p xs start end old new
 some_added_all net held p xs start end old new is =
     record { each = λ k x y ge lt. inr (is.each k x y ge lt) }
 
 -- what has been taken out at the places before `at`, and not yet from there on
-pub record IsRightSoFar (net : Network) (best : LocRib) (p : Cidr) (xs : List Session)
+pub record IsRightSoFar (net : Network) (best : LocRib) (p : Cidr) (xs : List SessionState)
     (start at end : ℕ) (old lists : List Owed) : Type 0 where
   pub listed : AreListedFrom net best xs start at lists
   pub rest : AreListedBut net best p xs at end lists
   pub elsewhere : AreElsewhere start end old lists
 
-pub right_none : (net : Network) (best : LocRib) (p : Cidr) (xs : List Session) (start end : ℕ)
+pub right_none : (net : Network) (best : LocRib) (p : Cidr) (xs : List SessionState) (start end : ℕ)
     (old : List Owed) → AreListedBut net best p xs start end old
     → IsRightSoFar net best p xs start start end old old
 right_none net best p xs start end old is = record {
@@ -313,10 +296,10 @@ right_none net best p xs start end old is = record {
   elsewhere = record { many = refl; same = λ k y out. refl };
 }
 
-module _ (net : Network) (best : LocRib) (p : Cidr) (xs : List Session)
+module _ (net : Network) (best : LocRib) (p : Cidr) (xs : List SessionState)
     (start at end : ℕ) (old lists : List Owed)
     (is : IsRightSoFar net best p xs start at end old lists) where
-  pub right_next : (new : List Owed) (x : Session) (y v : Owed) (d : Due)
+  pub right_next : (new : List Owed) (x : SessionState) (y v : Owed) (d : Due)
       → start ≤ at → at < end → at < length lists → at < length xs
       → x ≡ get_or xs at x → y ≡ get_or lists at y
       → d ≡ due_of (fin.get (owed_over net best x) p) → v ≡ only_due y p d

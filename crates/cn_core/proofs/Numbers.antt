@@ -1,6 +1,6 @@
 -- The numbers of the devices, one after another.
-use Rattle.std.proofs.Common.{◌≡◌, ℕ, suc, ◌+◌, ◌-◌, ◌<◌, ◌≤◌, Bool, true, false, cond, List, [], ◌∷◌, ◌++◌, length, map, Some, None, refl, sym, ap, ◌∙◌, arith, append_assoc}
-use Rattle.std.specs.List.{find, range_with_len}
+use Rattle.std.proofs.Common.{◌≡◌, ℕ, suc, ◌+◌, ◌-◌, ◌<◌, ◌≤◌, List, [], ◌∷◌, ◌++◌, length, map, refl, sym, ap, ◌∙◌, arith, append_assoc}
+use Rattle.std.specs.List.{range_with_len}
 use Rattle.cn_base.specs.declared.ids.DeviceId.{DeviceId}
 use Rattle.cn_net.specs.Network.{Network, device_ids}
 
@@ -30,23 +30,6 @@ pub ids_end : (k n : ℕ) → n ≤ k → ids k (n - k) ≡ []
 ids_end k n h =
     let left : n - k ≡ 0 = omega (arith, h) in
     ap (ids k) left ∙ no_ids k
-
--- ---- a search among them
-
-pub find_passed : (t : DeviceId → Bool) (k n : ℕ) → k < n → t (record { 0 = k }) ≡ false
-    → find t (ids (k + 1) (n - (k + 1))) ≡ find t (ids k (n - k))
-find_passed t k n h e =
-    sym (ap (find t) (ids_next k n h)
-    ∙ ap (λ b. cond b (Some (record { 0 = k })) (find t (ids (k + 1) (n - (k + 1))))) e)
-
-pub find_found : (t : DeviceId → Bool) (k n : ℕ) → k < n → t (record { 0 = k }) ≡ true
-    → Some (record { 0 = k }) ≡ find t (ids k (n - k))
-find_found t k n h e =
-    sym (ap (find t) (ids_next k n h)
-    ∙ ap (λ b. cond b (Some (record { 0 = k })) (find t (ids (k + 1) (n - (k + 1))))) e)
-
-pub find_ended : (t : DeviceId → Bool) (k n : ℕ) → n ≤ k → None ≡ find t (ids k (n - k))
-find_ended t k n h = sym (ap (find t) (ids_end k n h))
 
 -- ---- a list made of them
 

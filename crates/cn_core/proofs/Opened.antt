@@ -26,19 +26,18 @@ use Rattle.cn_record.specs.Recorded.{RecordedOpening}
 use Rattle.cn_record.specs.Said.{is_one_island, island_originates}
 use Rattle.cn_net.specs.declared.device.Device.{Device}
 use Rattle.cn_net.specs.declared.device.Own.{Own}
-use Rattle.cn_core.specs.declared.session.Rib.{Rib}
-use Rattle.cn_core.specs.declared.session.Session.{Session}
 use Rattle.cn_core.specs.Laws.{CleanIsDecided, IsKept, IsSpeaking, SpeakersSay, held_in}
 use Rattle.cn_core.specs.Machine.{came_at, route_with}
 use Rattle.cn_core.specs.Start.{emulated_rib, ends_of, first_rib, first_ribs, first_sessions, own_prefixes, speaker_rib, start}
-use Rattle.cn_core.specs.State.{apply_all, empty_rib, empty_session, is_session, rib, session}
+use Rattle.cn_core.specs.State.{RibState, SessionState, empty_rib, empty_session, is_session, rib, session}
 use Rattle.cn_core.proofs.Access.{ends_of-empty, found_has}
 use Rattle.cn_core.proofs.Speaking.{beyond_says_nothing, speaker_says}
 
 -- ---- the sessions are empty
 
 -- a fact of every empty session
-all_empty : (P : Session → Type 0) → ((a b : DeviceId) → P (empty_session a b)) → (o : Opening)
+pub all_empty : (P : SessionState → Type 0) → ((a b : DeviceId) → P (empty_session a b))
+    → (o : Opening)
     → All P (first_sessions o)
 unfolding first_sessions
 all_empty P p o =
@@ -47,7 +46,7 @@ all_empty P p o =
     (λ k d lt. p (get_or es k d).from (get_or es k d).to)
 
 -- the sessions that are made by an index are the first
-pub sessions-made : (o : Opening) (index : List SessionEnds) (xs : List Session)
+pub sessions-made : (o : Opening) (index : List SessionEnds) (xs : List SessionState)
     → index ≡ session_ends o.net o.emulated → xs ≡ map (λ e. empty_session e.from e.to) index
     → xs ≡ first_sessions o
 unfolding first_sessions
@@ -67,19 +66,22 @@ nothing_came r d q = λ i a. at_each a i
 
     at_each : (a : DeviceId)
         → option_map (route_with q)
-        (fin.get (unwrap_or (find (is_session a d) (first_sessions o)) (empty_session a d)).came q)
+        (fin.get (unwrap_or (find (is_session a d) (first_sessions o))
+        (empty_session a d)).adj_rib_in q)
         ≡ None
     at_each a =
         elim (find (is_session a d) (first_sessions o)) as (λ x. find (is_session a d)
         (first_sessions o)
         ≡ x
-        → option_map (route_with q) (fin.get (unwrap_or x (empty_session a d)).came q) ≡ None) [
+        → option_map (route_with q) (fin.get (unwrap_or x (empty_session a d)).adj_rib_in q)
+        ≡ None) [
           | None ↦ λ e. ap (option_map (route_with q)) (get_empty q)
           | Some x ↦
               λ e. ap (option_map (route_with q))
-              (found_has (λ (y : Session). fin.get y.came q ≡ None) (is_session a d)
+              (found_has (λ (y : SessionState). fin.get y.adj_rib_in q ≡ None) (is_session a d)
               (first_sessions o)
-              x (all_empty (λ (y : Session). fin.get y.came q ≡ None) (λ a b. get_empty q) o) e).0
+              x (all_empty (λ (y : SessionState). fin.get y.adj_rib_in q ≡ None)
+              (λ a b. get_empty q) o) e).0
         ] refl
 
 -- ---- with nothing that came in, the own route is the best
@@ -192,7 +194,7 @@ clean_has_no_own r d q e c =
       | inl in' ↦
           device_clean (device_of r.opening.net d) q
           (sym (own_dirty r.opening.net d q)
-          ∙ ap (λ (x : Rib). prefixes.contains x.dirty q) (sym (emulated_at r d in' e)) ∙ c)
+          ∙ ap (λ (x : RibState). prefixes.contains x.dirty q) (sym (emulated_at r d in' e)) ∙ c)
       | inr out ↦
           ap (option_and_then (λ (x : Device). own_of x.body q))
           (slice_get_past r.opening.net.devices d.0 out)
@@ -202,11 +204,11 @@ nothing_held : (r : RecordedOpening) (d : DeviceId) (q : Cidr)
     → holds_device r.opening.emulated d ≡ true → held_in (start r) d q ≡ None
 nothing_held r d q e =
     elim (cases_lt d.0 (length r.opening.net.devices)) [
-      | inl in' ↦ ap (λ (x : Rib). fin.get x.best q) (emulated_at r d in' e) ∙ get_empty q
-      | inr out ↦ ap (λ (x : Rib). fin.get x.best q) (rib_beyond r d out) ∙ get_empty q
+      | inl in' ↦ ap (λ (x : RibState). fin.get x.loc_rib q) (emulated_at r d in' e) ∙ get_empty q
+      | inr out ↦ ap (λ (x : RibState). fin.get x.loc_rib q) (rib_beyond r d out) ∙ get_empty q
     ]
 
-net_at_start : (r : RecordedOpening) → (start r).net ≡ r.opening.net
+net_at_start : (r : RecordedOpening) → (start r).now.net ≡ r.opening.net
 unfolding start
 net_at_start r = refl
 
@@ -247,10 +249,9 @@ speaks_at_start r d e =
 pub kept_start : (r : RecordedOpening) → IsKept r (start r)
 unfolding start
 kept_start r = record {
-  net = refl;
+  now = refl;
   ends = first_ends r.opening;
   ribs = count_ribs r;
-  transit = all_empty (λ x. apply_all x.came x.mail ≡ x.sent) (λ a b. refl) r.opening;
   few = all_empty (λ x. length x.mail ≤ 64) (λ a b. omega arith) r.opening;
   decided = decided_at_start r;
   speakers = speaks_at_start r;

@@ -1,7 +1,7 @@
--- The two lists of what a session owes, and the message that goes first by them.
+-- The two lists of what a session owes.
 use Rattle.std.proofs.Common.{◌≡◌, ℕ, ◌+◌, ◌<◌, ◌≤◌, Bool, true, false, List, [], ◌∷◌, drop, get_or, length, map, Option, Some, None, refl, sym, ap, ◌∙◌, inl, inr, arith}
-use Rattle.std.specs.Prelude.{◌==◌, ◌&&◌, ◌||◌, not, nat_lt, is_none, is_some, option_and_then, option_map, slice_get}
-use Rattle.std.specs.List.{find, list_any}
+use Rattle.std.specs.Prelude.{◌==◌, ◌&&◌, ◌||◌, not, nat_lt}
+use Rattle.std.specs.List.{list_any}
 use Rattle.std.specs.FinMap as fin
 use Rattle.std.proofs.lemmas.Bool.Decides.{nat_tests}
 use Rattle.std.proofs.lemmas.List.{drop_all, drop_more}
@@ -9,20 +9,19 @@ use Rattle.cn_base.specs.Cidr.{Cidr, same_prefix}
 use Rattle.cn_base.specs.Table.{prefix_cmp}
 use Rattle.cn_base.specs.declared.ids.DeviceId.{DeviceId}
 use Rattle.cn_base.specs.declared.route.Attributes.{Attributes}
-use Rattle.cn_rib.specs.PrefixMaps.{picked, picked_entries}
 use Rattle.cn_rib.specs.PrefixSet.{PrefixSet}
 use Rattle.cn_rib.specs.PrefixSet as set
+use Rattle.cn_rib.specs.Updates.{AdjRib}
 use Rattle.cn_rib.proofs.Keyed.{contains-empty, contains-insert, found_first, get_empty, held_has_len, same_set}
-use Rattle.cn_rib.proofs.PrefixMaps.{entries-picked, get-picked}
 use Rattle.cn_rib.proofs.Prefixes.{same_tells}
 use Rattle.cn_net.specs.Network.{Network}
-use Rattle.cn_core.specs.declared.message.Message.TheVariants.{Withdraw, Announce}
 use Rattle.cn_core.specs.declared.owed.Due.{Due}
 use Rattle.cn_core.specs.declared.owed.Due.TheVariants.{Nothing, Withdrawal, Announcement}
 use Rattle.cn_core.specs.declared.owed.Owed.{Owed}
-use Rattle.cn_core.specs.Owed.{AdjRib, LocRib, OwedMap, advertised, message_for, next_message, or_first, owed}
+use Rattle.cn_core.specs.Owed.{OwedMap, owed}
 use Rattle.cn_core.specs.OwedLists.{IsListed, due_of, empty_lists, is_announcement, is_withdrawal, with_all_due, with_due}
-use Rattle.cn_core.proofs.Owes.{get-first_entry, get-owed-outside, owed_some}
+use Rattle.cn_core.specs.State.{LocRib}
+use Rattle.cn_core.proofs.Owes.{get-owed-outside}
 
 -- ---- both lists as one
 
@@ -167,147 +166,6 @@ listed_all net a b sent best =
     belongs_nothing : (k : Bool) → belongs k Nothing ≡ false
     belongs_nothing true = refl
     belongs_nothing false = refl
-
--- ---- the message by the lists
-
-abbrev if_withdrawal : Option Attributes → Option (Unit {0})
-if_withdrawal None = Some tt
-if_withdrawal (Some w) = None
-
-abbrev if_announcement : Option Attributes → Option (Unit {0})
-if_announcement None = None
-if_announcement (Some w) = Some tt
-
-module _ (m : OwedMap) (x : Owed) (is : IsListed m x) where
-  withdrawals_picked : x.withdrawals ≡ picked if_withdrawal m
-  withdrawals_picked =
-      same_set x.withdrawals (picked if_withdrawal m) (λ q. is.withdrawals q
-      ∙ tested (fin.get m q) ∙ sym (ap is_some (get-picked if_withdrawal m q)))
-    where
-      tested : (o : Option (Option Attributes))
-          → is_withdrawal (due_of o) ≡ is_some (option_and_then if_withdrawal o)
-      tested None = refl
-      tested (Some None) = refl
-      tested (Some (Some w)) = refl
-
-  announcements_picked : x.announcements ≡ picked if_announcement m
-  announcements_picked =
-      same_set x.announcements (picked if_announcement m) (λ q. is.announcements q
-      ∙ tested (fin.get m q) ∙ sym (ap is_some (get-picked if_announcement m q)))
-    where
-      tested : (o : Option (Option Attributes))
-          → is_announcement (due_of o) ≡ is_some (option_and_then if_announcement o)
-      tested None = refl
-      tested (Some None) = refl
-      tested (Some (Some w)) = refl
-
--- the first prefix of the entries whose withdrawal is owed
-first_withdrawn : (es : List (Cidr × Option Attributes))
-    → slice_get (map (λ e. e.0) (picked_entries if_withdrawal es)) 0
-    ≡ option_map (λ e. e.0) (find (λ e. is_none e.1) es)
-first_withdrawn [] = refl
-first_withdrawn ((q, None) ∷ es) = refl
-first_withdrawn ((q, Some w) ∷ es) = first_withdrawn es
-
--- where no withdrawal is owed, the first entry is the first that is announced
-first_announced : (es : List (Cidr × Option Attributes)) (p : Cidr)
-    → find (λ e. is_none e.1) es ≡ None
-    → slice_get (map (λ e. e.0) (picked_entries if_announcement es)) 0 ≡ Some p
-    → (w : Attributes) × (slice_get es 0 ≡ Some (p, Some w))
-first_announced [] p none is = cc
-first_announced ((q, None) ∷ es) p none is = cc
-first_announced ((q, Some w) ∷ es) p none is =
-    let same : q ≡ p = cc in (w, ap (λ (z : Cidr). Some (z, Some w)) same)
-
-none_announced : (es : List (Cidr × Option Attributes)) → find (λ e. is_none e.1) es ≡ None
-    → slice_get (map (λ e. e.0) (picked_entries if_announcement es)) 0 ≡ None
-    → slice_get es 0 ≡ None
-none_announced [] none is = refl
-none_announced ((q, None) ∷ es) none is = cc
-none_announced ((q, Some w) ∷ es) none is = cc
-
-found_withdrawal : (es : List (Cidr × Option Attributes)) (p : Cidr)
-    → option_map (λ e. e.0) (find (λ e. is_none e.1) es) ≡ Some p
-    → find (λ e. is_none e.1) es ≡ Some (p, None)
-found_withdrawal [] p is = cc
-found_withdrawal ((q, None) ∷ es) p is =
-    let same : q ≡ p = cc in ap (λ (z : Cidr). Some (z, None)) same
-found_withdrawal ((q, Some w) ∷ es) p is = found_withdrawal es p is
-
-module _ (m : OwedMap) (x : Owed) (is : IsListed m x) where
-  least_withdrawal : set.least x.withdrawals
-      ≡ option_map (λ e. e.0) (find (λ e. is_none e.1) (fin.entries m))
-  least_withdrawal =
-      ap set.least (withdrawals_picked m x is)
-      ∙ ap (λ es. slice_get (map (λ (e : Cidr × Unit {0}). e.0) es) 0)
-      (entries-picked if_withdrawal m)
-      ∙ first_withdrawn (fin.entries m)
-
-  least_announcement : set.least x.announcements
-      ≡ slice_get (map (λ e. e.0) (picked_entries if_announcement (fin.entries m))) 0
-  least_announcement =
-      ap set.least (announcements_picked m x is)
-      ∙ ap (λ es. slice_get (map (λ (e : Cidr × Unit {0}). e.0) es) 0)
-      (entries-picked if_announcement m)
-
-  no_withdrawal : set.least x.withdrawals ≡ None
-      → find (λ e. is_none e.1) (fin.entries m) ≡ None
-  no_withdrawal none = unmapped (find (λ e. is_none e.1) (fin.entries m))
-      (sym least_withdrawal ∙ none)
-    where
-      unmapped : (o : Option (Cidr × Option Attributes)) → option_map (λ e. e.0) o ≡ None
-          → o ≡ None
-      unmapped None e = refl
-      unmapped (Some y) e = cc
-
-  -- the withdrawal of the least prefix that is to be withdrawn goes first
-  pub next_message-withdrawal : (p : Cidr) → set.least x.withdrawals ≡ Some p
-      → Some (Withdraw p) ≡ next_message m
-  unfolding next_message
-  next_message-withdrawal p least =
-      sym (ap (λ o. option_map (λ e. message_for e.0 e.1) (or_first o (fin.entries m)))
-      (found_withdrawal (fin.entries m) p (sym least_withdrawal ∙ least)))
-
-  -- where there is none to be withdrawn, the announcement of the least prefix that is to be
-  -- announced, with the route that is owed
-  pub next_message-announcement : (p : Cidr) → set.least x.withdrawals ≡ None
-      → set.least x.announcements ≡ Some p
-      → (w : Attributes) × ((fin.get m p ≡ Some (Some w))
-      × (next_message m ≡ Some (Announce p w)))
-  unfolding next_message
-  next_message-announcement p none least =
-      let gone = no_withdrawal none in
-      let first =
-      first_announced (fin.entries m) p gone (sym least_announcement ∙ least) in
-      let entry =
-      ap (λ o. or_first o (fin.entries m)) gone ∙ first.1 in (
-        first.0,
-        (
-          get-first_entry m (p, Some first.0) entry,
-          ap (option_map (λ e. message_for e.0 e.1)) entry,
-        ),
-      )
-
-  -- and no message where there is none either
-  pub next_message-nothing : set.least x.withdrawals ≡ None → set.least x.announcements ≡ None
-      → None ≡ next_message m
-  unfolding next_message
-  next_message-nothing none also =
-      let gone = no_withdrawal none in
-      sym (ap (λ o. option_map (λ e. message_for e.0 e.1) (or_first o (fin.entries m))) gone
-      ∙ ap (option_map (λ e. message_for e.0 e.1))
-      (none_announced (fin.entries m) gone (sym least_announcement ∙ also)))
-
--- the announcement that goes first is that of what is advertised
-pub next_message-advertised : (net : Network) (a b : DeviceId) (sent : AdjRib) (best : LocRib)
-    (x : Owed) (p : Cidr)
-    → IsListed (owed net a b sent best) x → set.least x.withdrawals ≡ None
-    → set.least x.announcements ≡ Some p
-    → option_map (Announce p) (advertised net a b best p) ≡ next_message (owed net a b sent best)
-next_message-advertised net a b sent best x p is none least =
-    let found = next_message-announcement (owed net a b sent best) x is p none least in
-    ap (option_map (Announce p)) ((owed_some net a b sent best p (Some found.0)).0 found.1.0).0
-    ∙ sym found.1.1
 
 -- ---- whether something is owed
 

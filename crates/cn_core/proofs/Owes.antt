@@ -1,10 +1,11 @@
--- What is owed, at each prefix, and the message that goes first of it.
+-- What is owed, at each prefix.
 use Rattle.std.proofs.Common.{◌≡◌, ◌≢◌, ℕ, ◌<◌, Bool, true, false, cond, not, List, [], ◌∷◌, ◌++◌, length, Option, Some, None, refl, sym, ap, ◌∙◌, subst, inl, inr, eq-eqb, arith, true≢false}
-use Rattle.std.specs.Prelude.{◌↔◌, ◌==◌, ◌&&◌, ◌||◌, T, is_none, is_some, option_map, nat_lt, slice_get}
-use Rattle.std.specs.List.{find, list_any}
+use Rattle.std.specs.Prelude.{◌↔◌, ◌==◌, ◌&&◌, ◌||◌, is_some, nat_lt}
+use Rattle.std.specs.List.{list_any}
 use Rattle.std.specs.FinMap as fin
-use Rattle.std.proofs.lemmas.Bool.{eqb-true}
+use Rattle.std.proofs.lemmas.Bool.{and_parts, eqb-true}
 use Rattle.std.proofs.lemmas.Bool.Decides.{nat_tests}
+use Rattle.std.proofs.lemmas.List.Folds.{list_any-append}
 use Rattle.cn_base.specs.Cidr.{Cidr, same_prefix}
 use Rattle.cn_base.specs.Rank.{origin_code}
 use Rattle.cn_base.specs.Table.{prefix_cmp}
@@ -14,16 +15,14 @@ use Rattle.cn_base.specs.declared.ids.Origin.{Origin}
 use Rattle.cn_base.specs.declared.ids.Origin.TheVariants.{Igp, Egp, Incomplete}
 use Rattle.cn_base.specs.declared.route.Attributes.{Attributes}
 use Rattle.cn_rib.specs.PrefixMaps.{put_at}
-use Rattle.cn_rib.proofs.Keyed.{empty_from_entries, entries_of_empty, found_first, found_later, get_empty, get_outside_keys, get_removed_all, held_has_len, inserted_elsewhere, inserted_there, removed_elsewhere, removed_there, same_rows, sorted_parts}
+use Rattle.cn_rib.specs.Updates.{AdjRib}
+use Rattle.cn_rib.proofs.Keyed.{found_first, get_empty, get_outside_keys, get_removed_all, held_has_len, same_rows}
 use Rattle.cn_rib.proofs.PrefixMaps.{get-put_all, get-put_at-elsewhere, get-put_at-there}
 use Rattle.cn_rib.proofs.Prefixes.{same_tells}
 use Rattle.cn_net.specs.Network.{Network}
 use Rattle.cn_net.specs.Stable.{offer_of}
-use Rattle.cn_core.specs.declared.message.Message.{Message}
-use Rattle.cn_core.specs.declared.session.Session.{Session}
-use Rattle.cn_core.specs.Owed.{AdjRib, CoveredOwedLaw, DecidedOwedLaw, EmptyOwedLaw, GetOwedLaw, LocRib, OwedMap, SentOwedLaw, advertised, differs_from_sent, message_for, next_message, offered_attributes, or_first, owed, owed_by, owed_for, owes, same_attributes, same_numbers, unless_sent, without}
-use Rattle.cn_core.specs.State.{CoreState, apply, prefix_of}
-use Rattle.cn_core.proofs.Access.{and_parts}
+use Rattle.cn_core.specs.Owed.{CoveredOwedLaw, DecidedOwedLaw, EmptyOwedLaw, GetOwedLaw, advertised, differs_from_sent, offered_attributes, owed, owed_by, owed_for, owes, same_attributes, same_numbers, unless_sent, without}
+use Rattle.cn_core.specs.State.{CoreState, LocRib, SessionState}
 
 -- ---- attributes that are the same
 
@@ -126,16 +125,6 @@ unless_sent-some s w v e =
 
 -- ---- prefixes of one list or of another
 
-any-append : (t : Cidr → Bool) (xs ys : List Cidr)
-    → list_any t (xs ++ ys) ≡ (list_any t xs || list_any t ys)
-any-append t [] ys = refl
-any-append t (x ∷ xs) ys =
-    ap (λ b. t x || b) (any-append t xs ys) ∙ turned (t x) (list_any t xs) (list_any t ys)
-  where
-    turned : (x y z : Bool) → (x || (y || z)) ≡ ((x || y) || z)
-    turned true y z = refl
-    turned false y z = refl
-
 neither : (x y : Bool) → (x || y) ≡ false → (x ≡ false) × (y ≡ false)
 neither true y e = absurd (true≢false e)
 neither false y e = (refl, e)
@@ -156,7 +145,7 @@ module _ (net : Network) (a b : DeviceId) (sent : AdjRib) (best : LocRib) where
   nothing_at q e =
       let both =
       neither (list_any (same_prefix q) (fin.keys sent)) (list_any (same_prefix q) (fin.keys best))
-      (sym (any-append (same_prefix q) (fin.keys sent) (fin.keys best)) ∙ e) in
+      (sym (list_any-append (same_prefix q) (fin.keys sent) (fin.keys best)) ∙ e) in
       unless_sent-same (fin.get sent q) (advertised net a b best q)
       (get_outside_keys sent q both.0
       ∙ sym (ap (offered_attributes net a b q) (get_outside_keys best q both.1)
@@ -183,7 +172,7 @@ module _ (net : Network) (a b : DeviceId) (sent : AdjRib) (best : LocRib) where
       → fin.get (owed net a b sent best) q ≡ None
   get-owed-outside q e =
       get-owed_for q
-      ∙ nothing_at q (any-append (same_prefix q) (fin.keys sent) (fin.keys best) ∙ e)
+      ∙ nothing_at q (list_any-append (same_prefix q) (fin.keys sent) (fin.keys best) ∙ e)
 
   -- at each prefix what is advertised is owed, unless it was sent
   pub get-owed : (q : Cidr)
@@ -286,166 +275,15 @@ covered_owed_holds net a b sent new best ps inside outside =
           ∙ get-owed net a b sent best q)
     ] refl)
 
--- ---- the message
-
--- an entry that is found by a test is found by its prefix, and passes
-found_entry : (t : Cidr × Option Attributes → Bool) (es : List (Cidr × Option Attributes))
-    (e : Cidr × Option Attributes)
-    → T (fin.is_sorted prefix_cmp es) → find t es ≡ Some e
-    → (fin.find prefix_cmp e.0 es ≡ Some e.1) × (t e ≡ true)
-found_entry t [] e s f = cc
-found_entry t (x ∷ xs) e s f =
-    elim (t x) as (λ b. t x ≡ b → cond b (Some x) (find t xs) ≡ Some e
-    → (fin.find prefix_cmp e.0 (x ∷ xs) ≡ Some e.1) × (t e ≡ true)) [
-      | true ↦ λ b f.
-          let same : x ≡ e = cc in
-          subst (λ (z : Cidr × Option Attributes). (fin.find prefix_cmp z.0 (x ∷ xs) ≡ Some z.1)
-          × (t z ≡ true)) same (found_first x xs, b)
-      | false ↦ λ b f.
-          let rest = found_entry t xs e (sorted_parts x xs s).1 f in
-          (found_later x xs e.0 e.1 s rest.0, rest.1)
-    ] refl f
-
-front_entry : (es : List (Cidr × Option Attributes)) (e : Cidr × Option Attributes)
-    → slice_get es 0 ≡ Some e → fin.find prefix_cmp e.0 es ≡ Some e.1
-front_entry [] e f = cc
-front_entry (x ∷ xs) e f =
-    let same : x ≡ e = cc in
-    subst (λ (z : Cidr × Option Attributes). fin.find prefix_cmp z.0 (x ∷ xs) ≡ Some z.1) same
-    (found_first x xs)
-
--- the entry that goes first
-abbrev pub first_entry : OwedMap → Option (Cidr × Option Attributes)
-first_entry m = or_first (find (λ e. is_none e.1) (fin.entries m)) (fin.entries m)
-
--- it is an entry of the map
-pub get-first_entry : (m : OwedMap) (e : Cidr × Option Attributes) → first_entry m ≡ Some e
-    → fin.get m e.0 ≡ Some e.1
-get-first_entry m e is =
-    fin.get-entries m e.0
-    ∙ elim (find (λ x. is_none x.1) (fin.entries m)) as
-    (λ o. find (λ x. is_none x.1) (fin.entries m) ≡ o → or_first o (fin.entries m) ≡ Some e
-    → fin.find prefix_cmp e.0 (fin.entries m) ≡ Some e.1) [
-      | None ↦ λ f is. front_entry (fin.entries m) e is
-      | Some x ↦ λ f is.
-          let same : x ≡ e = cc in
-          subst (λ (z : Cidr × Option Attributes). fin.find prefix_cmp z.0 (fin.entries m)
-          ≡ Some z.1) same
-          (found_entry (λ y. is_none y.1) (fin.entries m) x (fin.entries_sorted m) f).0
-    ] refl is
-
-no_first_entry : (o : Option (Cidr × Option Attributes)) (es : List (Cidr × Option Attributes))
-    → or_first o es ≡ None → es ≡ []
-no_first_entry (Some e) es is = cc
-no_first_entry None [] is = refl
-no_first_entry None (x ∷ xs) is = cc
-
-prefix_of-message_for : (p : Cidr) (o : Option Attributes) → prefix_of (message_for p o) ≡ p
-prefix_of-message_for p None = refl
-prefix_of-message_for p (Some w) = refl
-
--- a message is that of an entry of the map
-message_entry : (m : OwedMap) (message : Message) → next_message m ≡ Some message
-    → (e : Cidr × Option Attributes)
-    × ((fin.get m e.0 ≡ Some e.1) × (message_for e.0 e.1 ≡ message))
-unfolding next_message
-message_entry m message is =
-    elim (first_entry m) as (λ o. first_entry m ≡ o
-    → option_map (λ x. message_for x.0 x.1) o ≡ Some message
-    → (e : Cidr × Option Attributes)
-    × ((fin.get m e.0 ≡ Some e.1) × (message_for e.0 e.1 ≡ message))) [
-      | None ↦ λ f is. cc
-      | Some e ↦ λ f is.
-          let same : message_for e.0 e.1 ≡ message = cc in (e, (get-first_entry m e f, same))
-    ] refl is
-
-next_message-none : (m : OwedMap) → (next_message m ≡ None) ↔ (m ≡ fin.empty)
-unfolding next_message
-next_message-none m = (
-  λ is. empty_from_entries m (no_first_entry (find (λ x. is_none x.1) (fin.entries m))
-      (fin.entries m) (unmapped (first_entry m) is)),
-  λ e.
-      let none : fin.entries m ≡ [] = ap fin.entries e ∙ entries_of_empty in
-      ap (λ es. option_map (λ x. message_for x.0 x.1) (or_first (find (λ x. is_none x.1) es) es))
-      none,
-)
-  where
-    unmapped : (o : Option (Cidr × Option Attributes))
-        → option_map (λ x. message_for x.0 x.1) o ≡ None → o ≡ None
-    unmapped None e = refl
-    unmapped (Some x) e = cc
-
-next_message-owed : (m : OwedMap) (message : Message) → next_message m ≡ Some message
-    → fin.contains_key m (prefix_of message) ≡ true
-next_message-owed m message is =
-    let found = message_entry m message is in
-    let prefix : prefix_of message ≡ found.0.0 =
-    ap prefix_of (sym found.1.1) ∙ prefix_of-message_for found.0.0 found.0.1 in
-    ap (fin.contains_key m) prefix ∙ ap is_some found.1.0
-
--- ---- after a send
-
-get-apply-there : (x : AdjRib) (p : Cidr) (o : Option Attributes)
-    → fin.get (apply x (message_for p o)) p ≡ o
-get-apply-there x p None = removed_there x p
-get-apply-there x p (Some w) = inserted_there x p w
-
-get-apply-elsewhere : (x : AdjRib) (p : Cidr) (o : Option Attributes) (q : Cidr)
-    → same_prefix q p ≡ false → fin.get (apply x (message_for p o)) q ≡ fin.get x q
-get-apply-elsewhere x p None q e = removed_elsewhere x p q e
-get-apply-elsewhere x p (Some w) q e = inserted_elsewhere x p w q e
-
-one_of-one : (b : Bool) → (b || false) ≡ b
-one_of-one true = refl
-one_of-one false = refl
-
-sent_entry : (net : Network) (a b : DeviceId) (sent : AdjRib) (best : LocRib) (p : Cidr)
-    (o : Option Attributes)
-    → fin.get (owed net a b sent best) p ≡ Some o
-    → owed net a b (apply sent (message_for p o)) best ≡ fin.remove (owed net a b sent best) p
-sent_entry net a b sent best p o is =
-    let offer = ((owed_some net a b sent best p o).0 is).0 in
-    covered_owed_holds net a b sent (apply sent (message_for p o)) best (p ∷ [])
-    (λ q among. elim (same_tells q p) [
-      | inl same ↦
-          subst (λ (z : Cidr). fin.get (apply sent (message_for p o)) z
-          ≡ advertised net a b best z) (sym same.1) (get-apply-there sent p o ∙ sym offer)
-      | inr other ↦
-          absurd (true≢false
-          (sym among ∙ one_of-one (same_prefix q p) ∙ other.0))
-    ])
-    (λ q outside. get-apply-elsewhere sent p o q
-    (sym (one_of-one (same_prefix q p)) ∙ outside))
-
--- after a send the prefix of the message is owed no more
-pub owed-sent : (net : Network) (a b : DeviceId) (sent : AdjRib) (best : LocRib)
-    (message : Message)
-    → next_message (owed net a b sent best) ≡ Some message
-    → owed net a b (apply sent message) best
-    ≡ fin.remove (owed net a b sent best) (prefix_of message)
-owed-sent net a b sent best message is =
-    let found = message_entry (owed net a b sent best) message is in
-    let p = found.0.0 in
-    let o = found.0.1 in
-    let prefix : p ≡ prefix_of message =
-    sym (ap prefix_of (sym found.1.1) ∙ prefix_of-message_for p o) in
-    ap (λ m. owed net a b (apply sent m) best) (sym found.1.1)
-    ∙ sent_entry net a b sent best p o found.1.0
-    ∙ ap (fin.remove (owed net a b sent best)) prefix
-
-pub sent_owed_holds : SentOwedLaw
-sent_owed_holds =
-    record { none = next_message-none; before = next_message-owed; after = owed-sent }
-
 -- ---- of a session of the state
 
 -- a session that owes nothing has sent what is advertised, and one that has owes nothing
-pub owes-none : (s : CoreState) (x : Session) → owes s x ≡ false → owed_by s x ≡ fin.empty
+pub owes-none : (s : CoreState) (x : SessionState) → owes s x ≡ false → owed_by s x ≡ fin.empty
 owes-none s x e = fin.empty_of_len (owed_by s x) (none (fin.len (owed_by s x)) e)
   where
     none : (n : ℕ) → nat_lt 0 n ≡ false → n ≡ 0
     none n e = grind (arith, nat_tests)
 
 -- where nothing is owed, no session owes
-pub owes-empty : (s : CoreState) (x : Session) → owed_by s x ≡ fin.empty → owes s x ≡ false
+pub owes-empty : (s : CoreState) (x : SessionState) → owed_by s x ≡ fin.empty → owes s x ≡ false
 owes-empty s x e = ap (nat_lt 0) (ap fin.len e ∙ fin.len-empty prefix_cmp (Option Attributes))

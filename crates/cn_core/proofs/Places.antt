@@ -13,10 +13,9 @@ use Rattle.cn_net.specs.declared.sessions.SessionEnds.{SessionEnds}
 use Rattle.cn_net.proofs.Keys.{same_device-Decides}
 use Rattle.cn_net.proofs.Lookups.{end_holds, end_is}
 use Rattle.cn_net.proofs.Senders.{place_leads, sender_at, sender_is}
-use Rattle.cn_core.specs.declared.session.Session.{Session}
 use Rattle.cn_core.specs.Machine.{at_first}
 use Rattle.cn_core.specs.Start.{ends, ends_of}
-use Rattle.cn_core.specs.State.{CoreState, empty_session, is_session, session}
+use Rattle.cn_core.specs.State.{CoreState, SessionState, empty_session, is_session, session}
 use Rattle.cn_core.specs.Whole.{ArePlacesOf, IsNowhere, IsPlaceOf}
 use Rattle.cn_core.proofs.Access.{ends_are, itself}
 
@@ -50,21 +49,24 @@ find_nowhere t (x ∷ xs) none =
     ap (λ b. cond b (Some x) (find t xs)) (none 0 x (omega arith))
     ∙ find_nowhere t xs (λ k d lt. none (suc k) d (omega (arith, lt)))
 
-pub found_at : (a b : DeviceId) (xs : List Session) (i : ℕ) (d : Session) → IsPlaceOf a b xs i
+pub found_at : (a b : DeviceId) (xs : List SessionState) (i : ℕ) (d : SessionState)
+    → IsPlaceOf a b xs i
     → find (is_session a b) xs ≡ Some (get_or xs i d)
 found_at a b xs i d p =
     find_there (is_session a b) xs i d p.inside (λ k lt. p.before k d lt) (p.here d)
 
-pub changed_at : (a b : DeviceId) (xs : List Session) (i : ℕ) (d : Session) (f : Session → Session)
+pub changed_at : (a b : DeviceId) (xs : List SessionState) (i : ℕ) (d : SessionState)
+    (f : SessionState → SessionState)
     → IsPlaceOf a b xs i → at_first (is_session a b) f xs ≡ set xs i (f (get_or xs i d))
 changed_at a b xs i d f p =
     change_there (is_session a b) f xs i d p.inside (λ k lt. p.before k d lt) (p.here d)
 
-pub not_found : (a b : DeviceId) (xs : List Session) → IsNowhere a b xs
+pub not_found : (a b : DeviceId) (xs : List SessionState) → IsNowhere a b xs
     → find (is_session a b) xs ≡ None
 not_found a b xs n = find_nowhere (is_session a b) xs n
 
-pub session_at : (s : CoreState) (a b : DeviceId) (i : ℕ) (d : Session) → IsPlaceOf a b s.sessions i
+pub session_at : (s : CoreState) (a b : DeviceId) (i : ℕ) (d : SessionState)
+    → IsPlaceOf a b s.sessions i
     → session s a b ≡ get_or s.sessions i d
 unfolding session
 session_at s a b i d p = ap (λ o. unwrap_or o (empty_session a b)) (found_at a b s.sessions i d p)
@@ -76,7 +78,7 @@ session_nowhere s a b n = ap (λ o. unwrap_or o (empty_session a b)) (not_found 
 
 -- ---- what an index finds
 
-ends_at : (xs : List Session) (i : ℕ) (d : Session) (e : SessionEnds) → i < length xs
+ends_at : (xs : List SessionState) (i : ℕ) (d : SessionState) (e : SessionEnds) → i < length xs
     → get_or (ends_of xs) i e ≡ ends (get_or xs i d)
 ends_at xs i d e within = get_or-map ends xs i d e within
 
@@ -94,12 +96,12 @@ greater_ends a b e f less from to =
     let y = ap (λ (z : DeviceId). z.0) to in
     grind (arith, nat_tests)
 
-module _ (a b : DeviceId) (xs : List Session) (up : Ascend (ends_of xs)) where
+module _ (a b : DeviceId) (xs : List SessionState) (up : Ascend (ends_of xs)) where
   abbrev it : SessionEnds
   it = record { from = a; to = b }
 
   -- the ends of a session and of a later one
-  ends_ascend : (i j : ℕ) (d : Session) → i < j → j < length xs
+  pub ends_ascend : (i j : ℕ) (d : SessionState) → i < j → j < length xs
       → by_sender (ends (get_or xs i d)) (ends (get_or xs j d)) ≡ Less
   ends_ascend i j d lt within =
       let many = length-map xs ends in
@@ -112,7 +114,7 @@ module _ (a b : DeviceId) (xs : List Session) (up : Ascend (ends_of xs)) where
       let many = length-map xs ends in
       let within = slice_get_within (ends_of xs) i it at in
       let inside : i < length xs = omega arith in
-      let are : (d : Session) → ends (get_or xs i d) ≡ it =
+      let are : (d : SessionState) → ends (get_or xs i d) ≡ it =
       λ d. sym (ends_at xs i d it inside) ∙ get_or_from_slice_get (ends_of xs) i it it at in
       record {
         inside = inside;
@@ -126,7 +128,7 @@ module _ (a b : DeviceId) (xs : List Session) (up : Ascend (ends_of xs)) where
       }
 
   -- a session that stands behind it has other ends
-  pub placed-later : (i k : ℕ) (d : Session) → IsPlaceOf a b xs i → i < k → k < length xs
+  pub placed-later : (i k : ℕ) (d : SessionState) → IsPlaceOf a b xs i → i < k → k < length xs
       → is_session a b (get_or xs k d) ≡ false
   placed-later i k d p lt within =
       let are = ends_are a b (get_or xs i d) (p.here d) in
@@ -134,7 +136,7 @@ module _ (a b : DeviceId) (xs : List Session) (up : Ascend (ends_of xs)) where
       are.0 are.1
 
 -- no session has ends for which the index has no place
-pub unplaced : (a b : DeviceId) (xs : List Session)
+pub unplaced : (a b : DeviceId) (xs : List SessionState)
     → ((i : ℕ) → slice_get (ends_of xs) i ≢ Some (record { from = a; to = b }))
     → IsNowhere a b xs
 unplaced a b xs none k d lt =
@@ -147,7 +149,7 @@ unplaced a b xs none k d lt =
     ∙ (λ i. Some (record { from = are.0 i; to = are.1 i }))))
 
 -- what the index answers of two ends
-pub place_found : (a b : DeviceId) (xs : List Session) (o : Option ℕ) → Ascend (ends_of xs)
+pub place_found : (a b : DeviceId) (xs : List SessionState) (o : Option ℕ) → Ascend (ends_of xs)
     → MatchOption o ((i : ℕ) → slice_get (ends_of xs) i ≢ Some (record { from = a; to = b }))
     (λ i. slice_get (ends_of xs) i ≡ Some (record { from = a; to = b }))
     → MatchOption o (IsNowhere a b xs) (λ i. IsPlaceOf a b xs i)
@@ -156,7 +158,8 @@ place_found a b xs (Some i) up found = placed a b xs up i found
 
 -- ---- the places of the sessions from a device
 
-module _ (d : DeviceId) (xs : List Session) (k : ℕ) (x : Session) (within : k < length xs) where
+module _ (d : DeviceId) (xs : List SessionState) (k : ℕ) (x : SessionState)
+    (within : k < length xs) where
   abbrev from_it : Bool
   from_it = same_device (get_or xs k x).from d
 
@@ -174,7 +177,8 @@ module _ (d : DeviceId) (xs : List Session) (k : ℕ) (x : Session) (within : k 
       ∙ (same_device-Decides (get_or xs k x).from d).0 t)
 
 -- the places that the index has for the sessions from a device
-pub places_found : (d : DeviceId) (xs : List Session) (start end : ℕ) → end ≤ length (ends_of xs)
+pub places_found : (d : DeviceId) (xs : List SessionState) (start end : ℕ)
+    → end ≤ length (ends_of xs)
     → ((k : ℕ) → ((start ≤ k) × (k < end)) ↔ (comes_from (ends_of xs) d k ≡ true))
     → ArePlacesOf d xs start end
 places_found d xs start end inside places =
@@ -199,7 +203,7 @@ nobody : DeviceId
 nobody = record { 0 = 0 }
 
 -- a place that the index has for the sessions into a device is that of a session
-pub into_within : (d : DeviceId) (xs : List Session) (k : ℕ)
+pub into_within : (d : DeviceId) (xs : List SessionState) (k : ℕ)
     → Contains (places_into (ends_of xs) d) k → k < length xs
 into_within d xs k h =
     let many = length-map xs ends in
@@ -207,7 +211,8 @@ into_within d xs k h =
     omega (arith, leads.0)
 
 -- the session at a place that the index has for the sessions into a device
-pub into_found : (d : DeviceId) (xs : List Session) (k : ℕ) (x : Session) → Ascend (ends_of xs)
+pub into_found : (d : DeviceId) (xs : List SessionState) (k : ℕ) (x : SessionState)
+    → Ascend (ends_of xs)
     → Contains (places_into (ends_of xs) d) k → x ≡ get_or xs k x
     → (k < length xs) × (find (is_session x.from d) xs ≡ Some x)
     × (sender_at (ends_of xs) k ≡ x.from)

@@ -20,9 +20,8 @@ use Rattle.cn_core.specs.Order.{IsQuiet, standing}
 use Rattle.cn_core.specs.Pulled.{IsQuietAnswer}
 use Rattle.cn_core.specs.State.{CoreState}
 use Rattle.cn_core.specs.Tables.{AreTables, IsTableOf}
-use Rattle.cn_core.proofs.Kept.{run_holds}
-use Rattle.cn_core.proofs.Quiet.{quiet_shows, whole_state}
-use Rattle.cn_core.proofs.Stands.{standing_is}
+use Rattle.cn_core.proofs.Quiet.{quiet_holds, whole_state}
+use Rattle.cn_core.proofs.Stands.{standing_holds}
 
 -- the tables of what devices hold are those of an assignment in which these hold the same
 shown_as : (net : Network) (emulated : List DeviceId) (x y : Assignment) (tables : List DeviceTable)
@@ -54,15 +53,14 @@ module _ (r : RecordedOpening) (h : List Step) (t : CoreState) (l : Log) (is : I
       → AreTables emulated (held_in t) tables → IsQuietAnswer l tables
   pulled_quiet emulated tables same stand shown =
       let o = r.opening in
-      let k = run_holds r h is.run in
       let quiet : IsQuiet (state r h) =
-      (standing_is r (state r h) k).0
+      (standing_holds r h is.run).0
       (sym (stand ∙ ap (λ (x : Log). standing (now x)) (sym view))) in
       let whole = whole_state r is.recorded in
       let mine : AreTables o.emulated (held_in (state r h)) tables =
       subst (λ s. AreTables o.emulated (held_in s) tables) is.tables
       (subst (λ e. AreTables e (held_in t) tables) same shown) in
-      let agree = quiet_shows r (state r h) whole.state is.recorded k quiet whole.stable in
+      let agree = quiet_holds r h whole.state is.fits is.recorded is.run quiet whole.stable in
       let at : IsQuietAnswer (record { recorded = r; history = h }) tables =
       record {
         quiet = quiet;
@@ -76,9 +74,8 @@ module _ (r : RecordedOpening) (h : List Step) (t : CoreState) (l : Log) (is : I
   pub pulled_again : (pending : Standing) → pending ≡ standing (now l)
       → (pending ≡ stands.Quiet → ⊥) → (IsQuiet (now l) → ⊥) × (pending ≡ standing (now l))
   pulled_again pending stand other =
-      let k = run_holds r h is.run in
       let at : state r h ≡ now l = ap now view in (
         λ quiet. other (stand ∙ ap standing (sym at)
-            ∙ (standing_is r (state r h) k).1 (subst IsQuiet (sym at) quiet)),
+            ∙ (standing_holds r h is.run).1 (subst IsQuiet (sym at) quiet)),
         stand,
       )

@@ -28,12 +28,12 @@ use Rattle.cn_net.proofs.States.{has_one_state}
 use Rattle.cn_record.specs.Recorded.{IsRecorded, RecordedOpening}
 use Rattle.cn_record.specs.Said.{said_by}
 use Rattle.cn_record.proofs.Saying.{says_own}
-use Rattle.cn_core.specs.declared.session.Session.{Session}
+use Rattle.cn_core.specs.Fits.{MailBringsSent, apply_mail}
 use Rattle.cn_core.specs.Laws.{IsKept, QuietLaw, held_in}
 use Rattle.cn_core.specs.Machine.{came_at, route_with, state}
 use Rattle.cn_core.specs.Order.{IsQuiet}
 use Rattle.cn_core.specs.Owed.{advertised, attributes_of, offered_attributes, owed_by}
-use Rattle.cn_core.specs.State.{CoreState, apply_all, empty_session, is_session, rib, session}
+use Rattle.cn_core.specs.State.{CoreState, SessionState, empty_session, is_session, rib, session}
 use Rattle.cn_core.proofs.Access.{ends_are, found_has, is_some-session}
 use Rattle.cn_core.proofs.Kept.{run_holds}
 use Rattle.cn_core.proofs.Owes.{owed_empty}
@@ -89,43 +89,46 @@ no_session_no_offer r s k valid a d p held m none =
         absurd (true≢false (sym (is_some-session a d s.sessions there) ∙ ap is_some none))
 
 -- where nothing is under way and nothing is owed, what came in is what is offered
-came_is_offered : (r : RecordedOpening) (s : CoreState) → IsKept r s → IsValid r.opening.net
+came_is_offered : (r : RecordedOpening) (s : CoreState) → IsKept r s → MailBringsSent s
+    → IsValid r.opening.net
     → All (λ x. x.mail ≡ []) s.sessions → All (λ x. owed_by s x ≡ fin.empty) s.sessions
     → (a d : DeviceId) (p : Cidr) → holds_device r.opening.emulated d ≡ true
     → came_at s d p a ≡ offers_to r.opening.net (held_in s) d p a
 unfolding came_at session
-came_is_offered r s k valid no_mail none_owed a d p m =
+came_is_offered r s k brings valid no_mail none_owed a d p m =
     let o = r.opening in
     elim (find (is_session a d) s.sessions) as (λ x. find (is_session a d) s.sessions ≡ x
-    → option_map (route_with p) (fin.get (unwrap_or x (empty_session a d)).came p)
+    → option_map (route_with p) (fin.get (unwrap_or x (empty_session a d)).adj_rib_in p)
     ≡ offer_of o.net a d p (held_in s a p)) [
       | None ↦
           λ e. ap (option_map (route_with p)) (get_empty p)
           ∙ sym (no_session_no_offer r s k valid a d p (held_in s a p) m e)
       | Some x ↦ λ e.
           let transit =
-          found_has (λ (y : Session). apply_all y.came y.mail ≡ y.sent) (is_session a d) s.sessions
-          x k.transit e in
+          found_has (λ (y : SessionState). apply_mail y.adj_rib_in y.mail ≡ y.adj_rib_out)
+          (is_session a d) s.sessions x brings e in
           let empty =
-          found_has (λ (y : Session). y.mail ≡ []) (is_session a d) s.sessions x no_mail e in
+          found_has (λ (y : SessionState). y.mail ≡ []) (is_session a d) s.sessions x no_mail e in
           let nothing =
-          found_has (λ (y : Session). owed_by s y ≡ fin.empty) (is_session a d) s.sessions x
+          found_has (λ (y : SessionState). owed_by s y ≡ fin.empty) (is_session a d) s.sessions x
           none_owed e in
           let ends = ends_are a d x transit.1 in
-          let arrived : x.came ≡ x.sent = ap (apply_all x.came) (sym empty.0) ∙ transit.0 in
-          let sent : fin.get x.sent p ≡ offered_attributes o.net a d p (held_in s a p) =
-          (owed_empty s.net x.from x.to x.sent (rib s x.from).best).0 nothing.0 p
-          ∙ (λ i. advertised (k.net i) (ends.0 i) (ends.1 i) (rib s (ends.0 i)).best p) in
+          let arrived : x.adj_rib_in ≡ x.adj_rib_out =
+          ap (apply_mail x.adj_rib_in) (sym empty.0) ∙ transit.0 in
+          let sent : fin.get x.adj_rib_out p ≡ offered_attributes o.net a d p (held_in s a p) =
+          (owed_empty s.now.net x.from x.to x.adj_rib_out (rib s x.from).loc_rib).0 nothing.0 p
+          ∙ (λ i. advertised (k.now i).net (ends.0 i) (ends.1 i) (rib s (ends.0 i)).loc_rib p) in
           ap (λ n. option_map (route_with p) (fin.get n p)) arrived
           ∙ ap (option_map (route_with p)) sent ∙ offered_back o.net a d p (held_in s a p)
     ] refl
 
 -- in a quiet state the emulated devices hold their best, and the others hold what they say
-quiet_inside : (r : RecordedOpening) (s : CoreState) → IsKept r s → IsValid r.opening.net
+quiet_inside : (r : RecordedOpening) (s : CoreState) → IsKept r s → MailBringsSent s
+    → IsValid r.opening.net
     → IsQuiet s
     → IsStableInside r.opening.net (outside_of r.opening.emulated) (said_by r.opening r.rows)
     (held_in s)
-quiet_inside r s k valid quiet = record {
+quiet_inside r s k brings valid quiet = record {
   best = λ d p h f.
       let net = r.opening.net in
       let m : holds_device r.opening.emulated d ≡ true =
@@ -133,9 +136,9 @@ quiet_inside r s k valid quiet = record {
       let clean : prefixes.contains (rib s d).dirty p ≡ false =
       ap (λ x. prefixes.contains x p) (quiet.clean d) ∙ contains-empty p in
       let came : came_at s d p ≡ offers_to net (held_in s) d p =
-      λ i a. came_is_offered r s k valid quiet.mail quiet.owed a d p m i in
+      λ i a. came_is_offered r s k brings valid quiet.mail quiet.owed a d p m i in
       let held : held_in s d p ≡ best_of net (offers_to net (held_in s) d p) d p =
-      k.decided d p m clean ∙ (λ i. best_of (k.net i) (came i) d p) in
+      k.decided d p m clean ∙ (λ i. best_of (k.now i).net (came i) d p) in
       subst (IsBest net (offers_to net (held_in s) d p) d p) (sym held)
       (best_of_is_best net (offers_to net (held_in s) d p) d p);
   heard = λ d p h f. (k.speakers d (not-true (holds_device r.opening.emulated d) f)).says p;
@@ -147,9 +150,9 @@ whole_state r is = has_one_state r.opening.net (distinct_ids r.opening.net is.op
 
 -- and the emulated devices hold what they hold in it
 pub quiet_shows : (r : RecordedOpening) (s : CoreState) (whole : Assignment) → IsRecorded r
-    → IsKept r s → IsQuiet s → IsStable r.opening.net whole
+    → IsKept r s → MailBringsSent s → IsQuiet s → IsStable r.opening.net whole
     → AgreeInside r.opening.net (outside_of r.opening.emulated) (held_in s) whole
-quiet_shows r s whole is k quiet stable =
+quiet_shows r s whole is k brings quiet stable =
     let o = r.opening in
     let bounded : IsBounded o.net (outside_of o.emulated) (label_of o.labels) whole = record {
       valid = is.opening.valid;
@@ -159,8 +162,9 @@ quiet_shows r s whole is k quiet stable =
     } in
     quiet_agrees o.net (outside_of o.emulated) (label_of o.labels) (said_by o r.rows) (held_in s)
     whole bounded is.sound (says_own o.net (label_of o.labels) r.rows)
-    (quiet_inside r s k is.opening.valid quiet)
+    (quiet_inside r s k brings is.opening.valid quiet)
 
 pub quiet_holds : QuietLaw
-quiet_holds r h whole is run quiet stable =
-    quiet_shows r (state r h) whole is (run_holds r h run) quiet stable
+quiet_holds r h whole fit is run quiet stable =
+    quiet_shows r (state r h) whole is (run_holds.kept r h run)
+    (run_holds.carried r h fit run).transit quiet stable

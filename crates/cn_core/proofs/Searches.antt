@@ -9,9 +9,8 @@ use Rattle.cn_lists.proofs.Finding.{Contains-from_find}
 use Rattle.cn_net.specs.Opening.{Opening}
 use Rattle.cn_net.specs.Sessions.{Ascend, session_ends}
 use Rattle.cn_net.proofs.SessionOrder.{ends_ascend}
-use Rattle.cn_core.specs.declared.session.Session.{Session}
 use Rattle.cn_core.specs.Start.{ends, ends_of}
-use Rattle.cn_core.specs.State.{CoreState, empty_session, is_session, session}
+use Rattle.cn_core.specs.State.{CoreState, SessionState, empty_session, is_session, session}
 use Rattle.cn_core.proofs.Places.{found_at, placed}
 
 -- ---- a search that finds nothing
@@ -64,7 +63,8 @@ pub apart : (o : Opening) (s : CoreState)
 apart o s e = subst Ascend (sym e) (ends_ascend o.net o.emulated)
 
 -- a session that is found is that of its ends
-pub found_apart : (t : Session → Bool) (xs : List Session) (x : Session) → Ascend (ends_of xs)
+pub found_apart : (t : SessionState → Bool) (xs : List SessionState) (x : SessionState)
+    → Ascend (ends_of xs)
     → find t xs ≡ Some x → find (is_session x.from x.to) xs ≡ Some x
 found_apart t xs x up e =
     let at = (Contains-from_find t xs x e).0 in
@@ -76,7 +76,7 @@ found_apart t xs x up e =
     ∙ ap Some (get_or-map ends xs i x (ends x) inside ∙ ap ends at.2) in
     found_at x.from x.to xs i x (placed x.from x.to xs up i here) ∙ ap Some at.2
 
-pub session_found : (t : Session → Bool) (s : CoreState) (x : Session)
+pub session_found : (t : SessionState → Bool) (s : CoreState) (x : SessionState)
     → Ascend (ends_of s.sessions) → find t s.sessions ≡ Some x → session s x.from x.to ≡ x
 unfolding session
 session_found t s x h e =

@@ -4,6 +4,7 @@ pub mod Start
 pub mod Machine
 pub mod Parts
 pub mod Order
+pub mod Fits
 pub mod Laws
 pub mod Log
 pub mod LogCode

@@ -5,6 +5,7 @@ use Rattle.cn_core.specs.declared.emulator.StepAnswer.{StepAnswer}
 use Rattle.cn_core.specs.declared.emulator.StepAnswer.TheVariants.{NotEnabled, Memory}
 use Rattle.cn_core.specs.declared.event.Event.{Event}
 use Rattle.cn_core.specs.declared.event.Step.{Step}
+use Rattle.cn_core.specs.Fits.{Fits}
 use Rattle.cn_core.specs.Machine.{IsRun, can, state}
 use Rattle.cn_core.specs.State.{CoreState}
 
@@ -28,8 +29,10 @@ abbrev pub IsRefusal : Log → Event → StepAnswer → Type 0
 IsRefusal l e NotEnabled = CanStep l e → ⊥
 IsRefusal l e Memory = Unit {0}
 
--- the tables are the state after a run from a certified opening with sound records
+-- the tables are the state after a run from a certified opening with sound records, whose numbers
+-- fit
 pub record IsState (r : RecordedOpening) (h : List Step) (t : CoreState) : Type 0 where
   pub recorded : IsRecorded r
+  pub fits : Fits r
   pub run : IsRun r h
   pub tables : t ≡ state r h

@@ -10,9 +10,8 @@ use Rattle.cn_rib.specs.PrefixSet as set
 use Rattle.cn_net.specs.Network.{device_ids, same_device}
 use Rattle.cn_core.specs.declared.event.Event.{Event}
 use Rattle.cn_core.specs.declared.event.Event.TheVariants.{Receive, Decide, Send}
-use Rattle.cn_core.specs.declared.session.Session.{Session}
 use Rattle.cn_core.specs.Owed.{owed_by, owes}
-use Rattle.cn_core.specs.State.{CoreState, rib}
+use Rattle.cn_core.specs.State.{CoreState, SessionState, rib}
 
 -- no mailbox holds a message, nothing is dirty, and nothing is owed
 pub record IsQuiet (s : CoreState) : Type 0 where
@@ -20,11 +19,11 @@ pub record IsQuiet (s : CoreState) : Type 0 where
   pub clean : (d : DeviceId) → (rib s d).dirty ≡ set.empty
   pub owed : All (λ x. owed_by s x ≡ fin.empty) s.sessions
 
-abbrev pub has_mail : Session → Bool
+abbrev pub has_mail : SessionState → Bool
 has_mail x = nat_lt 0 (length x.mail)
 
 -- x is a session from d that owes something
-abbrev pub owes_from : CoreState → DeviceId → Session → Bool
+abbrev pub owes_from : CoreState → DeviceId → SessionState → Bool
 owes_from s d x = same_device x.from d && owes s x
 
 -- d has a dirty prefix or owes one
@@ -33,9 +32,9 @@ is_pending s d = is_some (set.least (rib s d).dirty) || is_some (find (owes_from
 
 -- the first pending device, by number
 abbrev pub first_pending : CoreState → Option DeviceId
-first_pending s = find (is_pending s) (device_ids s.net)
+first_pending s = find (is_pending s) (device_ids s.now.net)
 
-abbrev pub standing_of : Option Session → Option DeviceId → Standing
+abbrev pub standing_of : Option SessionState → Option DeviceId → Standing
 standing_of (Some x) d = Mailbox x.from x.to
 standing_of None (Some d) = Device d
 standing_of None None = Quiet
@@ -45,10 +44,10 @@ standing_of None None = Quiet
 abbrev pub standing : CoreState → Standing
 standing s = standing_of (find has_mail s.sessions) (first_pending s)
 
-abbrev pub receive_over : Session → Event
+abbrev pub receive_over : SessionState → Event
 receive_over x = Receive x.from x.to
 
-abbrev pub send_over : Session → Event
+abbrev pub send_over : SessionState → Event
 send_over x = Send x.from x.to
 
 -- the decision of the least dirty prefix, or else the send to the least peer that is owed
@@ -56,7 +55,7 @@ abbrev pub device_event : CoreState → DeviceId → Option Cidr → Option Even
 device_event s d (Some p) = Some (Decide d p)
 device_event s d None = option_map send_over (find (owes_from s d) s.sessions)
 
-abbrev pub first_of : CoreState → Option Session → Option DeviceId → Option Event
+abbrev pub first_of : CoreState → Option SessionState → Option DeviceId → Option Event
 first_of s (Some x) d = Some (receive_over x)
 first_of s None (Some d) = device_event s d (set.least (rib s d).dirty)
 first_of s None None = None

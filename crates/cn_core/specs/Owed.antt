@@ -1,7 +1,7 @@
 -- What a session owes (RFC 4271, 9.2): for each prefix for which what was sent isn't what is
--- offered, what is offered. And the message that goes first of what is owed.
-use Rattle.std.specs.Prelude.{◌≡◌, ◌≢◌, ◌↔◌, ◌++◌, ◌<◌, Bool, true, false, ◌&&◌, ◌==◌, not, List, [], ◌∷◌, Option, Some, None, is_none, option_map, nat_lt, if◌then◌else◌, slice_get}
-use Rattle.std.specs.List.{find, fold, list_any}
+-- offered, what is offered. And the message that goes next of what is owed.
+use Rattle.std.specs.Prelude.{◌≡◌, ◌≢◌, ◌↔◌, ◌++◌, ◌<◌, ℕ, Bool, true, false, ◌&&◌, ◌==◌, not, List, [], ◌∷◌, Option, Some, None, map, option_map, nat_lt, if◌then◌else◌}
+use Rattle.std.specs.List.{fold, list_any}
 use Rattle.std.specs.FinMap.{FinMap}
 use Rattle.std.specs.FinMap as fin
 use Rattle.cn_base.specs.Cidr.{Cidr, same_prefix}
@@ -9,25 +9,20 @@ use Rattle.cn_base.specs.Rank.{origin_code}
 use Rattle.cn_base.specs.Table.{prefix_cmp}
 use Rattle.cn_base.specs.declared.ids.Asn.{Asn}
 use Rattle.cn_base.specs.declared.ids.DeviceId.{DeviceId}
+use Rattle.cn_base.specs.declared.ids.Origin.{Origin}
 use Rattle.cn_base.specs.declared.route.Attributes.{Attributes}
 use Rattle.cn_base.specs.declared.route.Choice.{Choice}
 use Rattle.cn_base.specs.declared.route.Route.{Route}
 use Rattle.cn_rib.specs.PrefixMaps.{put_at}
-use Rattle.cn_net.specs.Network.{Network}
+use Rattle.cn_rib.specs.Updates.{AdjRib, apply_update, prefixes_of}
+use Rattle.cn_wire.specs.declared.update.Update.{Update}
+use Rattle.cn_pack.specs.Packing.{packed}
+use Rattle.cn_pack.specs.declared.owed.Owed.{Owed as Row}
+use Rattle.cn_net.specs.Network.{Network, router_of}
 use Rattle.cn_net.specs.Stable.{offer_of}
-use Rattle.cn_core.specs.declared.message.Message.{Message}
-use Rattle.cn_core.specs.declared.message.Message.TheVariants.{Withdraw, Announce}
-use Rattle.cn_core.specs.declared.session.Session.{Session}
-use Rattle.cn_core.specs.State.{CoreState, apply, prefix_of, rib}
+use Rattle.cn_core.specs.State.{CoreState, LocRib, SessionState, rib}
 
--- the routes of a session, by prefix (Adj-RIB-In, Adj-RIB-Out), the best ones of a device
--- (Loc-RIB; RFC 4271, 3.2), and what is owed: where the value is none, a withdrawal
-abbrev pub AdjRib : Type 0
-AdjRib = FinMap prefix_cmp Attributes
-
-abbrev pub LocRib : Type 0
-LocRib = FinMap prefix_cmp Choice
-
+-- what is owed, by prefix: where the value is none, a withdrawal
 abbrev pub OwedMap : Type 0
 OwedMap = FinMap prefix_cmp (Option Attributes)
 
@@ -82,30 +77,29 @@ owed net a b sent best =
     (fin.keys sent ++ fin.keys best)
 
 -- the same, of a session of the state
-abbrev pub owed_by : CoreState → Session → OwedMap
-owed_by s x = owed s.net x.from x.to x.sent (rib s x.from).best
+abbrev pub owed_by : CoreState → SessionState → OwedMap
+owed_by s x = owed s.now.net x.from x.to x.adj_rib_out (rib s x.from).loc_rib
 
 -- a session owes something
-abbrev pub owes : CoreState → Session → Bool
+abbrev pub owes : CoreState → SessionState → Bool
 owes s x = nat_lt 0 (fin.len (owed_by s x))
 
 -- ---- the message of what is owed
 
-abbrev pub message_for : Cidr → Option Attributes → Message
-message_for p None = Withdraw p
-message_for p (Some offer) = Announce p offer
+abbrev pub pair_of : Attributes → List Asn × Origin
+pair_of w = (w.path, w.origin)
 
-abbrev pub or_first : Option (Cidr × Option Attributes) → List (Cidr × Option Attributes)
-    → Option (Cidr × Option Attributes)
-or_first (Some e) es = Some e
-or_first None es = slice_get es 0
+-- an entry of what is owed, as a row of the packing rule
+abbrev pub row_of : Cidr × Option Attributes → Row
+row_of e = record { prefix = e.0; wanted = option_map pair_of e.1 }
 
--- the withdrawal of the least prefix whose withdrawal is owed, and where no withdrawal is, the
--- announcement of the least owed prefix
-unfoldable pub next_message : OwedMap → Option Message
-next_message m =
-    option_map (λ e. message_for e.0 e.1)
-    (or_first (find (λ e. is_none e.1) (fin.entries m)) (fin.entries m))
+-- what is owed, as rows by ascending prefix
+unfoldable pub rows : OwedMap → List Row
+rows m = map row_of (fin.entries m)
+
+-- the message of the packing rule, with the sender's BGP Identifier as NEXT_HOP (RFC 4271, 5.1.3)
+unfoldable pub message_by : CoreState → SessionState → Update
+message_by s x = packed (rows (owed_by s x)) (router_of s.now.net x.from).0
 
 -- what is owed, without these prefixes
 abbrev pub without : OwedMap → List Cidr → OwedMap
@@ -153,13 +147,13 @@ CoveredOwedLaw =
     → ((p : Cidr) → list_any (same_prefix p) ps ≡ false → fin.get new p ≡ fin.get sent p)
     → owed net a b new best ≡ without (owed net a b sent best) ps
 
--- A message comes exactly where something is owed. Its prefix was owed, and after it is sent is
--- owed no more, and of the others is owed what was.
+-- After a send of the message, its prefixes are owed no more, and of the others is owed what was;
+-- and each of its prefixes was owed.
 pub record SentOwedLaw : Type 0 where
-  pub none : (m : OwedMap) → (next_message m ≡ None) ↔ (m ≡ fin.empty)
-  pub before : (m : OwedMap) (message : Message) → next_message m ≡ Some message
-      → fin.contains_key m (prefix_of message) ≡ true
-  pub after : (net : Network) (a b : DeviceId) (sent : AdjRib) (best : LocRib) (message : Message)
-      → next_message (owed net a b sent best) ≡ Some message
-      → owed net a b (apply sent message) best
-      ≡ fin.remove (owed net a b sent best) (prefix_of message)
+  pub before : (m : OwedMap) (next_hop : ℕ) (p : Cidr)
+      → list_any (same_prefix p) (prefixes_of (packed (rows m) next_hop)) ≡ true
+      → fin.contains_key m p ≡ true
+  pub after : (net : Network) (a b : DeviceId) (sent : AdjRib) (best : LocRib) (next_hop : ℕ)
+      → owed net a b (apply_update sent (packed (rows (owed net a b sent best)) next_hop)) best
+      ≡ without (owed net a b sent best)
+      (prefixes_of (packed (rows (owed net a b sent best)) next_hop))

@@ -1,22 +1,25 @@
 -- How what a session owes is kept: the prefixes that it is to withdraw and those that it is to
 -- announce. No public contract speaks of it.
-use Rattle.std.specs.Prelude.{◌≡◌, ◌⊎◌, ℕ, ◌<◌, ◌≤◌, Bool, true, false, List, length, Option, Some, None, slice_index_or}
+use Rattle.std.specs.Prelude.{◌≡◌, ◌⊎◌, ℕ, ◌+◌, ◌<◌, ◌≤◌, ◌^◌, Bool, true, false, List, length, map, nat_lt, option_map, Option, Some, None, slice_index_or}
 use Rattle.std.specs.List.{fold}
 use Rattle.std.specs.FinMap as fin
 use Rattle.cn_base.specs.Cidr.{Cidr, same_prefix}
+use Rattle.cn_base.specs.declared.ids.Asn.{Asn}
+use Rattle.cn_base.specs.declared.ids.DeviceId.{DeviceId}
+use Rattle.cn_base.specs.declared.ids.Origin.{Origin}
 use Rattle.cn_base.specs.declared.route.Attributes.{Attributes}
 use Rattle.cn_base.specs.declared.route.Choice.{Choice}
 use Rattle.cn_rib.specs.PrefixSet as set
+use Rattle.cn_wire.specs.declared.update.Attrs.{Attrs}
+use Rattle.cn_pack.specs.Packing.{is_same}
 use Rattle.cn_net.specs.Network.{Network}
 use Rattle.cn_net.specs.declared.sessions.SessionEnds.{SessionEnds}
-use Rattle.cn_core.specs.declared.message.Message.{Message}
 use Rattle.cn_core.specs.declared.owed.Due.{Due}
 use Rattle.cn_core.specs.declared.owed.Due.TheVariants.{Nothing, Withdrawal, Announcement}
 use Rattle.cn_core.specs.declared.owed.Owed.{Owed}
-use Rattle.cn_core.specs.declared.session.Session.{Session}
-use Rattle.cn_core.specs.Owed.{LocRib, OwedMap, offered_attributes, owed, owed_by, unless_sent}
+use Rattle.cn_core.specs.Owed.{OwedMap, advertised, offered_attributes, owed, owed_by, pair_of, unless_sent}
 use Rattle.cn_core.specs.Start.{ends_of}
-use Rattle.cn_core.specs.State.{CoreState, prefix_of}
+use Rattle.cn_core.specs.State.{CoreState, LocRib, SessionState, rib}
 use Rattle.cn_core.specs.Whole.{IsWhole}
 
 -- what is owed for a prefix, without the route
@@ -84,28 +87,28 @@ pub record IsListedBut (m : OwedMap) (p : Cidr) (x : Owed) : Type 0 where
 -- each session of the state has the lists of what it owes
 pub record AreListed (s : CoreState) (lists : List Owed) : Type 0 where
   pub many : length lists ≡ length s.sessions
-  pub each : (k : ℕ) (x : Session) (y : Owed) → k < length s.sessions
+  pub each : (k : ℕ) (x : SessionState) (y : Owed) → k < length s.sessions
       → IsListed (owed_by s (slice_index_or s.sessions k x)) (slice_index_or lists k y)
 
 -- what a session owes, where its sender holds `best`
-abbrev pub owed_over : Network → LocRib → Session → OwedMap
-owed_over net best x = owed net x.from x.to x.sent best
+abbrev pub owed_over : Network → LocRib → SessionState → OwedMap
+owed_over net best x = owed net x.from x.to x.adj_rib_out best
 
 -- what it owes for p, where its sender holds this for it
-abbrev pub due_over : Network → Option Choice → Cidr → Session → Due
+abbrev pub due_over : Network → Option Choice → Cidr → SessionState → Due
 due_over net held p x =
-    due_of (unless_sent (fin.get x.sent p) (offered_attributes net x.from x.to p held))
+    due_of (unless_sent (fin.get x.adj_rib_out p) (offered_attributes net x.from x.to p held))
 
 -- those at the places from `start` up to `end` have them, where their sender holds `best`
-pub record AreListedFrom (net : Network) (best : LocRib) (xs : List Session) (start end : ℕ)
+pub record AreListedFrom (net : Network) (best : LocRib) (xs : List SessionState) (start end : ℕ)
     (lists : List Owed) : Type 0 where
-  pub each : (k : ℕ) (x : Session) (y : Owed) → start ≤ k → k < end
+  pub each : (k : ℕ) (x : SessionState) (y : Owed) → start ≤ k → k < end
       → IsListed (owed_over net best (slice_index_or xs k x)) (slice_index_or lists k y)
 
 -- they have them, but p perhaps in a list too many
-pub record AreListedBut (net : Network) (best : LocRib) (p : Cidr) (xs : List Session)
+pub record AreListedBut (net : Network) (best : LocRib) (p : Cidr) (xs : List SessionState)
     (start end : ℕ) (lists : List Owed) : Type 0 where
-  pub each : (k : ℕ) (x : Session) (y : Owed) → start ≤ k → k < end
+  pub each : (k : ℕ) (x : SessionState) (y : Owed) → start ≤ k → k < end
       → IsListedBut (owed_over net best (slice_index_or xs k x)) p (slice_index_or lists k y)
 
 -- elsewhere the lists are as they were
@@ -115,28 +118,61 @@ pub record AreElsewhere (start end : ℕ) (old new : List Owed) : Type 0 where
       → slice_index_or new k y ≡ slice_index_or old k y
 
 -- what is owed for p, where this is held, was put in at these places
-pub record AreAdded (net : Network) (held : Option Choice) (p : Cidr) (xs : List Session)
+pub record AreAdded (net : Network) (held : Option Choice) (p : Cidr) (xs : List SessionState)
     (start end : ℕ) (old new : List Owed) : Type 0 where
-  pub each : (k : ℕ) (x : Session) (y : Owed) → start ≤ k → k < end
+  pub each : (k : ℕ) (x : SessionState) (y : Owed) → start ≤ k → k < end
       → slice_index_or new k y
       ≡ with_due (slice_index_or old k y) p (due_over net held p (slice_index_or xs k x))
 
 -- it was put in at some of these places
-pub record AreSomeAdded (net : Network) (held : Option Choice) (p : Cidr) (xs : List Session)
+pub record AreSomeAdded (net : Network) (held : Option Choice) (p : Cidr) (xs : List SessionState)
     (start end : ℕ) (old new : List Owed) : Type 0 where
-  pub each : (k : ℕ) (x : Session) (y : Owed) → start ≤ k → k < end
+  pub each : (k : ℕ) (x : SessionState) (y : Owed) → start ≤ k → k < end
       → (slice_index_or new k y ≡ slice_index_or old k y)
       ⊎ (slice_index_or new k y
       ≡ with_due (slice_index_or old k y) p (due_over net held p (slice_index_or xs k x)))
 
--- the prefix of a message is in no list
-abbrev pub without_message : Owed → Option Message → Owed
-without_message x None = x
-without_message x (Some m) = only_due x (prefix_of m) Nothing
+-- the prefixes of a message are in no list
+abbrev pub without_all : Owed → List Cidr → Owed
+without_all x ps = record {
+  withdrawals = fold set.remove x.withdrawals ps;
+  announcements = fold set.remove x.announcements ps;
+}
 
--- what the engine keeps: the order of the sessions, the index of them, and the lists of what each
--- owes
-pub record IsRight (s : CoreState) (index : List SessionEnds) (lists : List Owed) : Type 0 where
+-- ---- the message
+
+-- what is offered for a prefix has this path and this ORIGIN
+abbrev pub shares : Network → DeviceId → DeviceId → LocRib → List Asn → Origin → Cidr → Bool
+shares net a b best path origin p =
+    is_same path origin (option_map pair_of (advertised net a b best p))
+
+-- attributes with this NEXT_HOP
+abbrev pub attrs_with : ℕ → Attributes → Attrs
+attrs_with next_hop x = record { origin = x.origin; path = x.path; next_hop = next_hop }
+
+-- ---- the counts: how many messages, prefixes that are owed, and dirty prefixes there are
+
+-- how many prefixes stand in the lists of a session
+abbrev pub count_of : Owed → ℕ
+count_of x = fin.len x.withdrawals + fin.len x.announcements
+
+-- each session's count of messages and of what it owes, and each device's of dirty prefixes
+pub record AreCounted (s : CoreState) (lists : List Owed) (in_mail in_lists in_ribs : List ℕ) :
+    Type 0 where
+  pub mail : in_mail ≡ map (λ x. length x.mail) s.sessions
+  pub owed : in_lists ≡ map count_of lists
+  pub dirty : in_ribs ≡ map (λ x. fin.len x.dirty) s.ribs
+  pub few : length s.sessions < 2 ^ 32
+
+-- d has a dirty prefix
+abbrev pub has_dirty : CoreState → DeviceId → Bool
+has_dirty s d = nat_lt 0 (fin.len (rib s d).dirty)
+
+-- what the engine keeps: the order of the sessions, the index of them, the lists of what each owes,
+-- and the counts
+pub record IsRight (s : CoreState) (index : List SessionEnds) (lists : List Owed)
+    (in_mail in_lists in_ribs : List ℕ) : Type 0 where
   pub whole : IsWhole s
   pub indexed : index ≡ ends_of s.sessions
   pub listed : AreListed s lists
+  pub counted : AreCounted s lists in_mail in_lists in_ribs

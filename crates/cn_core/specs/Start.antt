@@ -17,22 +17,20 @@ use Rattle.cn_net.specs.declared.sessions.SessionEnds.{SessionEnds}
 use Rattle.cn_record.specs.Recorded.{RecordedOpening}
 use Rattle.cn_record.specs.Said.{said_by}
 use Rattle.cn_record.specs.declared.saved.Row.{Row}
-use Rattle.cn_core.specs.declared.session.Rib.{Rib}
-use Rattle.cn_core.specs.declared.session.Session.{Session}
-use Rattle.cn_core.specs.State.{CoreState, empty_session}
+use Rattle.cn_core.specs.State.{CoreState, RibState, SessionState, empty_session}
 
 -- ---- sessions
 
 -- the ends of a session
-abbrev pub ends : Session → SessionEnds
+abbrev pub ends : SessionState → SessionEnds
 ends x = record { from = x.from; to = x.to }
 
 -- the ends of sessions, in their order
-abbrev pub ends_of : List Session → List SessionEnds
+abbrev pub ends_of : List SessionState → List SessionEnds
 ends_of xs = map ends xs
 
 -- a session for each direction of a link whose receiver is emulated, by (from, to)
-unfoldable pub first_sessions : Opening → List Session
+unfoldable pub first_sessions : Opening → List SessionState
 first_sessions o = map (λ e. empty_session e.from e.to) (session_ends o.net o.emulated)
 
 -- ---- what an emulated device has
@@ -42,9 +40,9 @@ own_prefixes net d =
     unwrap_or (option_map (λ x. map (λ o. o.prefix) x.body.own) (device_of net d)) []
 
 -- nothing is held, and the own prefixes are dirty
-abbrev pub emulated_rib : Opening → DeviceId → Rib
+abbrev pub emulated_rib : Opening → DeviceId → RibState
 emulated_rib o d =
-    record { best = fin.empty; dirty = set.insert_all set.empty (own_prefixes o.net d) }
+    record { loc_rib = fin.empty; dirty = set.insert_all set.empty (own_prefixes o.net d) }
 
 -- ---- what a speaker has
 
@@ -65,18 +63,18 @@ said_routes r d =
 
 -- A speaker holds what it says, and nothing that it holds is ever dirty: no session leads to it, so
 -- it takes in nothing.
-abbrev pub speaker_rib : RecordedOpening → DeviceId → Rib
-speaker_rib r d = record { best = said_routes r d; dirty = set.empty }
+abbrev pub speaker_rib : RecordedOpening → DeviceId → RibState
+speaker_rib r d = record { loc_rib = said_routes r d; dirty = set.empty }
 
 -- ---- the state
 
-abbrev pub first_rib : RecordedOpening → DeviceId → Rib
+abbrev pub first_rib : RecordedOpening → DeviceId → RibState
 first_rib r d =
     if holds_device r.opening.emulated d then emulated_rib r.opening d else speaker_rib r d
 
 -- what each device holds, by its number
-unfoldable pub first_ribs : RecordedOpening → List Rib
+unfoldable pub first_ribs : RecordedOpening → List RibState
 first_ribs r = map (first_rib r) (device_ids r.opening.net)
 
 unfoldable pub start : RecordedOpening → CoreState
-start r = record { net = r.opening.net; sessions = first_sessions r.opening; ribs = first_ribs r }
+start r = record { now = r.opening; sessions = first_sessions r.opening; ribs = first_ribs r }

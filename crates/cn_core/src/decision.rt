@@ -38,21 +38,19 @@ impl Engine {
             ≡ Some session.now }
         ensures { let from = session.now.from in learnt_choice result
             ≡ better (learnt_choice best.entry)
-            (option_map (with_rank (rank_of self.now.net))
-            (usable self.now.net device from (came_at self.now device prefix.now from))) }
+            (option_map (with_rank (rank_of self.now.now.net))
+            (usable self.now.now.net device from (came_at self.now device prefix.now from))) }
     {
         let from = session.from;
-        let attributes = match session.came.get(prefix) {
+        let attributes = match session.adj_rib_in.get(prefix) {
             Some(attributes) => attributes,
             None => return best,
         };
-        if !self
-            .net
-            .accepts_path(device, from, prefix, &attributes.path)
-        {
+        let net = self.certified.net();
+        if !net.accepts_path(device, from, prefix, &attributes.path) {
             return best;
         }
-        let rank = rank(&self.net, from, attributes);
+        let rank = rank(net, from, attributes);
         let item = (from, attributes);
         better(best, Ranked { rank, item })
     }
@@ -61,9 +59,9 @@ impl Engine {
     fn learnt(&self, device: DeviceId, prefix: &Prefix) -> Option<Ranked<(DeviceId, &Attributes)>>
         ensures { learnt_choice result
             ≡ fold (λ best a. better best
-            (option_map (with_rank (rank_of self.now.net))
-            (usable self.now.net device a (came_at self.now device prefix.now a)))) None
-            (filter (has_session self.now device) (device_ids self.now.net)) }
+            (option_map (with_rank (rank_of self.now.now.net))
+            (usable self.now.now.net device a (came_at self.now device prefix.now a)))) None
+            (filter (has_session self.now device) (device_ids self.now.now.net)) }
     {
         let index = &self.index;
         let mut best = None;
@@ -82,9 +80,10 @@ impl Engine {
         prefix: &Prefix,
     ) -> Result<Option<Choice>, AllocError>
         ensures { IfOk result
-            (λ o. o ≡ best_of self.now.net (came_at self.now device prefix.now) device prefix.now) }
+            (λ o. o
+            ≡ best_of self.now.now.net (came_at self.now device prefix.now) device prefix.now) }
     {
-        if let Some(origin) = self.net.own_origin(device, prefix) {
+        if let Some(origin) = self.certified.net().own_origin(device, prefix) {
             return Ok(Some(Choice {
                 from: None,
                 path: AsPath::empty(alloc),

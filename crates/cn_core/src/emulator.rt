@@ -1,7 +1,7 @@
 //! The core: its state is that of its own history.
 
 ghost use Rattle.std.specs.Prelude.{◌≡◌, ◌↔◌, [], IfErr, IfOk, None, OnErr, OnOk};
-ghost use Rattle.cn_core.specs.Laws.{IsKept};
+ghost use Rattle.cn_core.specs.Laws.{IsCarried, IsKept};
 ghost use Rattle.cn_core.specs.Log.{CanStep, IsRefusal, Log as LogValue, now, then};
 ghost use Rattle.cn_core.specs.Machine.{IsRun};
 ghost use Rattle.cn_core.specs.Order.{IsQuiet, first_event, standing};
@@ -9,6 +9,7 @@ ghost use Rattle.cn_core.specs.Pulled.{IsPulled};
 
 use crate::engine::Engine;
 use crate::event::{Event, Step};
+use crate::fits::numbers_fit;
 use crate::pull::Pull;
 use crate::start::{Opened, open};
 use cn_base::Standing;
@@ -62,6 +63,7 @@ impl Core {
         ensures err { IfErr result (λ back. back ≡ recorded) }
     {
         recorded.valid();
+        numbers_fit(&recorded);
         let opening = Snapshot::of(&recorded);
         match open(alloc, recorded) {
             Ok(opened) => {
@@ -142,19 +144,21 @@ impl Core {
         }
     }
 
-    /// The steps so far. Each event was enabled where it happened.
+    /// The steps so far. Each event was enabled where it happened, and each message was read back
+    /// as the update that it spells.
     pub fn history(&self) -> &[Step]
         ensures same { result.now ≡ self.now.history }
         ensures run { IsRun self.now.recorded self.now.history }
+        ensures carried { IsCarried (now self.now) }
     {
         &self.history
     }
 
     /// The network now.
     pub fn net(&self) -> &Net
-        ensures net { result.now ≡ (now self.now).net }
+        ensures net { result.now ≡ (now self.now).now.net }
         ensures kept { IsKept self.now.recorded (now self.now) }
     {
-        &self.engine.net
+        self.engine.certified.net()
     }
 }

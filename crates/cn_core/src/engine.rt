@@ -9,29 +9,37 @@ ghost use Rattle.std.specs.List.{find};
 ghost use Rattle.cn_net.specs.Network.{IsDevice};
 ghost use Rattle.cn_rib.specs.PrefixSet as set;
 ghost use Rattle.cn_core.specs.Machine.{after_event, can, decide, receive, send};
-ghost use Rattle.cn_core.specs.Owed.{next_message, owed_by, owes};
-ghost use Rattle.cn_core.specs.State.{is_session, rib, session};
+ghost use Rattle.cn_core.specs.Owed.{owes};
+ghost use Rattle.cn_core.specs.State.{SessionState, is_session, rib, session};
 ghost use Rattle.cn_core.specs.Whole.{IsNowhere, IsPlaceOf};
-ghost use Rattle.cn_core.specs.declared.session.Session.{Session};
 
 use crate::event::Event;
-use crate::owed::{Owed, decide, message, send};
+use crate::message::message;
+use crate::owed::{Owed, count, decide, send};
 use crate::session::{Rib, Session, receive};
 use cn_base::{DeviceId, Prefix};
-use cn_net::{Net, SessionIndex};
+use cn_net::{Certified, SessionIndex};
+use cn_rib::Tally;
 use std::alloc::{AllocError, Global};
 use std::marker::Model;
 
-/// The network, the sessions by `(from, to)` with an index of their places, and what each device
-/// holds, by its number. Beside these what each session owes, by its place, is kept.
+/// The certified opening now, the sessions by `(from, to)` with an index of their places, and what
+/// each device holds, by its number. Beside these what each session owes, by its place, is kept,
+/// and how much there is to do.
 #[derive(Drop)]
 pub struct Engine {
-    pub net: Net,
+    pub certified: Certified,
     /// The sessions of the emulation (`session_ends`), at the places where they stand here.
     pub index: SessionIndex,
     pub sessions: Vec<Session>,
     pub ribs: Vec<Rib>,
     pub owed: Vec<Owed>,
+    /// How many messages are under way in each session.
+    pub in_mail: Tally,
+    /// How many prefixes each session owes.
+    pub in_lists: Tally,
+    /// How many prefixes of each device are dirty.
+    pub in_ribs: Tally,
 }
 
 impl Model for Engine {
@@ -43,11 +51,15 @@ impl Model for Engine {
 
     ghost coded = { state_code };
 
-    ghost view = { λ t. record { net = t.net; sessions = t.sessions.items; ribs = t.ribs.items } };
+    ghost view = { λ t. record {
+      now = t.certified;
+      sessions = t.sessions.items;
+      ribs = t.ribs.items;
+    } };
 
     ghost invariant = { λ t.
-        IsRight (record { net = t.net; sessions = t.sessions.items; ribs = t.ribs.items })
-        t.index t.owed.items };
+        IsRight (record { now = t.certified; sessions = t.sessions.items; ribs = t.ribs.items })
+        t.index t.owed.items t.in_mail t.in_lists t.in_ribs };
 }
 
 impl Engine {
@@ -71,7 +83,7 @@ impl Engine {
 
     /// What a device holds.
     pub fn rib(&self, device: DeviceId) -> &Rib
-        requires { IsDevice self.now.net device }
+        requires { IsDevice self.now.now.net device }
         ensures { result.now ≡ rib self.now device }
     {
         &self.ribs[device.0 as usize]
@@ -80,7 +92,7 @@ impl Engine {
     /// Whether the session at a place owes something.
     pub fn owes(&self, place: usize) -> bool
         requires { place < length self.now.sessions }
-        ensures { (x : Session)
+        ensures { (x : SessionState)
             → result ≡ owes self.now (slice_index_or self.now.sessions place x) }
     {
         !self.owed[place].is_empty()
@@ -93,7 +105,7 @@ impl Engine {
         ensures { result ≡ nat_lt 0 (length (session self.now from to).mail) }
     {
         match self.session(from, to) {
-            Some(session) => 0 < session.mail.len(),
+            Some(session) => !session.mail.is_empty(),
             None => false,
         }
     }
@@ -112,7 +124,10 @@ impl Engine {
         ensures { result ≡ can self.now (Event.Send from to) }
     {
         match self.place(from, to) {
-            Some(at) => self.owes(at) && self.sessions[at].mail.len() < 64,
+            Some(at) => {
+                let session = &self.sessions[at];
+                self.owes(at) && session.mail.len() < 64
+            }
             None => false,
         }
     }
@@ -131,15 +146,20 @@ impl Engine {
     // ---- an event that is enabled; all memory is taken before anything changes
 
     fn receive(&mut self, alloc: Global, from: DeviceId, to: DeviceId) -> Result<(), AllocError>
-        requires { 0 < length (session self.old from to).mail }
         ensures ok { OnOk result
             (self.new ≡ receive self.old from to (session self.old from to).mail) }
         ensures err { OnErr result (self.new ≡ self.old) }
     {
-        match self.place(from, to) {
-            Some(at) => receive(alloc, &mut self.sessions[at], &mut self.ribs[to.0 as usize]),
-            None => Ok(()),
-        }
+        let Some(at) = self.place(from, to) else {
+            return Ok(());
+        };
+        let session = &mut self.sessions[at];
+        let rib = &mut self.ribs[to.0 as usize];
+        receive(alloc, session, rib)?;
+        let left = session.mail.len();
+        self.in_mail.set(at as u32, left as u128);
+        self.in_ribs.set(to.0, rib.dirty.len() as u128);
+        Ok(())
     }
 
     fn decide(&mut self, alloc: Global, device: DeviceId, prefix: &Prefix) -> Result<(), AllocError>
@@ -149,36 +169,31 @@ impl Engine {
     {
         let choice = self.decided(alloc, device, prefix)?;
         let (start, end) = self.places_from(device);
+        let net = self.certified.net();
         let rib = &mut self.ribs[device.0 as usize];
-        decide(
-            &self.net,
-            &self.sessions,
-            &mut self.owed,
-            start,
-            end,
-            rib,
-            prefix,
-            choice,
-        )
+        let lists = &mut self.owed;
+        let done = decide(net, &self.sessions, lists, start, end, rib, prefix, choice);
+        count(&mut self.in_lists, &self.owed, start, end);
+        self.in_ribs.set(device.0, rib.dirty.len() as u128);
+        done
     }
 
     fn send(&mut self, alloc: Global, from: DeviceId, to: DeviceId) -> Result<(), AllocError>
         requires { IsTrue (can self.old (Event.Send from to)) }
-        ensures ok { OnOk result
-            (self.new
-            ≡ send self.old from to
-            (next_message (owed_by self.old (session self.old from to)))) }
+        ensures ok { OnOk result (self.new ≡ send self.old from to) }
         ensures err { OnErr result (self.new ≡ self.old) }
     {
-        match self.place(from, to) {
-            Some(at) => {
-                let best = &self.ribs[from.0 as usize].best;
-                let lists = &self.owed[at];
-                let message = message(alloc, &self.net, &self.sessions[at], best, lists)?;
-                send(alloc, &mut self.sessions[at], &mut self.owed[at], message)
-            }
-            None => Ok(()),
-        }
+        let Some(at) = self.place(from, to) else {
+            return Ok(());
+        };
+        let rib = &self.ribs[from.0 as usize];
+        let session = &mut self.sessions[at];
+        let lists = &mut self.owed[at];
+        let update = message(alloc, self.certified.net(), session, &rib.loc_rib, lists)?;
+        send(alloc, session, lists, &update)?;
+        self.in_mail.set(at as u32, session.mail.len() as u128);
+        self.in_lists.set(at as u32, lists.len());
+        Ok(())
     }
 
     /// An event that is enabled happens. All memory is taken before anything changes.

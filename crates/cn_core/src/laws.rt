@@ -1,13 +1,20 @@
 //! What holds of the state after every run. Each function does nothing; its contract is the law.
 
-ghost use Rattle.cn_core.specs.Laws.{FirstLaw, QuietLaw, RunLaw, StandingLaw};
+ghost use Rattle.cn_core.specs.Laws.{FirstLaw, FitsLaw, QuietLaw, RunLaw, StandingLaw};
 ghost use Rattle.cn_core.specs.Owed.{CoveredOwedLaw, DecidedOwedLaw, EmptyOwedLaw, GetOwedLaw, SentOwedLaw};
 
-/// The invariants hold after every run: the messages of each mailbox lead from what came in to what
-/// was sent, a clean prefix has the best choice that a decision would give, a mailbox holds at most
-/// 64 messages, and each speaker holds what it says.
+/// The invariants hold after every run: a clean prefix has the best choice that a decision would
+/// give, a mailbox holds at most 64 messages, and each speaker holds what it says; and where the
+/// numbers of the opening fit, each message is the spelling of an update, and the messages of each
+/// mailbox lead from what came in to what was sent.
 pub fn run_law()
     ensures { RunLaw }
+{}
+
+/// Where the numbers of a state fit, each message that is sent is read back as the update that it
+/// spells, and each that is received is read.
+pub fn fits_law()
+    ensures { FitsLaw }
 {}
 
 /// In a quiet state the emulated devices hold what they hold in a stable state of the whole
@@ -48,8 +55,8 @@ pub fn covered_owed()
     ensures { CoveredOwedLaw }
 {}
 
-/// A message comes exactly where something is owed. Its prefix was owed, and is owed no more when
-/// the message is sent; of all others is owed what was.
+/// Each prefix of a message was owed, and is owed no more when the message is sent; of all others
+/// is owed what was.
 pub fn sent_owed()
     ensures { SentOwedLaw }
 {}

@@ -1,17 +1,19 @@
 //! What a session owes (RFC 4271, 9.2).
 
-ghost use Rattle.std.specs.Prelude.{◌≡◌, ◌==◌, ◌&&◌, ◌<◌, ◌≤◌, IfOk, OnErr, OnOk, None, Some, length, map, option_copied, option_map};
+ghost use Rattle.std.specs.Prelude.{◌≡◌, ◌⊎◌, ℕ, ◌==◌, ◌&&◌, ◌<◌, ◌≤◌, ◌^◌, IfOk, OnErr, OnOk, None, length, map, option_copied, slice_index, slice_index_or, true};
 ghost use Rattle.std.specs.FinMap as fin;
-ghost use Rattle.cn_core.specs.Owed.{next_message, offered_attributes, owed, unless_sent};
-ghost use Rattle.cn_core.specs.Machine.{decided};
-ghost use Rattle.cn_core.specs.OwedLists.{AreAdded, AreElsewhere, AreListedBut, AreListedFrom, AreSomeAdded, IsListed, due_of, empty_lists, only_due, with_all_due, with_due, without_message};
-ghost use Rattle.cn_core.specs.Parts.{put_out_if};
+ghost use Rattle.cn_core.specs.declared.owed.Owed.{Owed as Listed};
+ghost use Rattle.cn_core.specs.Owed.{offered_attributes, owed, unless_sent};
+ghost use Rattle.cn_core.specs.Machine.{decided, put_out};
+ghost use Rattle.cn_core.specs.OwedLists.{AreAdded, AreElsewhere, AreListedBut, AreListedFrom, AreSomeAdded, IsListed, due_of, count_of, empty_lists, only_due, with_all_due, with_due, without_all};
+ghost use Rattle.cn_rib.specs.Updates.{prefixes_of};
+ghost use Rattle.cn_wire.specs.Writing.{fits};
 
-use crate::message::Message;
-use crate::session::{Rib, Session, prefix_of};
-use cn_base::{Attributes, Choice, DeviceId, Prefix, Route};
+use crate::session::{Rib, Session};
+use cn_base::{Attributes, Choice, DeviceId, Prefix};
 use cn_net::Net;
-use cn_rib::{PrefixMap, PrefixSet, Row};
+use cn_rib::{PrefixMap, PrefixSet, Row, Tally};
+use cn_wire::Update;
 use std::alloc::{AllocError, Global};
 
 /// What a session owes for a prefix.
@@ -81,14 +83,15 @@ fn due_with(
 fn due_for(net: &Net, session: &Session, best: &PrefixMap<Choice>, prefix: &Prefix) -> Due
     ensures { result
         ≡ due_of (fin.get
-        (owed net.now session.now.from session.now.to session.now.sent best.now) prefix.now) }
+        (owed net.now session.now.from session.now.to session.now.adj_rib_out best.now)
+        prefix.now) }
 {
     due_with(
         net,
         session.from,
         session.to,
         prefix,
-        session.sent.get(prefix),
+        session.adj_rib_out.get(prefix),
         best.get(prefix),
     )
 }
@@ -112,6 +115,23 @@ impl Owed {
             ≡ ((fin.len self.now.withdrawals == 0) && (fin.len self.now.announcements == 0)) }
     {
         self.withdrawals.is_empty() && self.announcements.is_empty()
+    }
+
+    /// How many prefixes are owed.
+    pub fn len(&self) -> u128
+        ensures { result ≡ count_of self.now }
+    {
+        self.withdrawals.len() as u128 + self.announcements.len() as u128
+    }
+
+    // The prefixes of a message are in no list.
+    fn forget(&mut self, update: &Update)
+        ensures { self.new ≡ without_all self.old (prefixes_of update.now) }
+    {
+        self.withdrawals.remove_all(update.withdrawn.items());
+        self.withdrawals.remove_all(update.announced.items());
+        self.announcements.remove_all(update.withdrawn.items());
+        self.announcements.remove_all(update.announced.items());
     }
 
     // The prefix is taken out of the list that it doesn't belong to.
@@ -151,7 +171,7 @@ impl Owed {
         ensures { OnOk result
             (self.new
             ≡ with_all_due
-            (owed net.now session.now.from session.now.to session.now.sent best.now)
+            (owed net.now session.now.from session.now.to session.now.adj_rib_out best.now)
             self.old (map (λ r. r.prefix) rows.now)) }
     {
         for row in rows {
@@ -170,10 +190,10 @@ pub fn listed(
     best: &PrefixMap<Choice>,
 ) -> Result<Owed, AllocError>
     ensures { IfOk result (λ lists. IsListed
-        (owed net.now session.now.from session.now.to session.now.sent best.now) lists) }
+        (owed net.now session.now.from session.now.to session.now.adj_rib_out best.now) lists) }
 {
     let mut lists = Owed::new(alloc);
-    lists.add_all(net, session, best, session.sent.rows())?;
+    lists.add_all(net, session, best, session.adj_rib_out.rows())?;
     lists.add_all(net, session, best, best.rows())?;
     Ok(lists)
 }
@@ -201,7 +221,7 @@ fn add_decided(
 {
     for at in start..end {
         let session = &sessions[at];
-        let sent = session.sent.get(prefix);
+        let sent = session.adj_rib_out.get(prefix);
         let due = due_with(net, session.from, session.to, prefix, sent, held);
         lists[at].add(prefix, due)?;
     }
@@ -244,95 +264,58 @@ pub fn decide(
 ) -> Result<(), AllocError>
     requires inside { end ≤ length sessions.now }
     requires many { length lists.old.items ≡ length sessions.now }
-    requires listed { AreListedFrom net.now rib.old.best sessions.now start end lists.old.items }
+    requires listed { AreListedFrom net.now rib.old.loc_rib sessions.now start end lists.old.items }
     ensures ok { OnOk result (rib.new ≡ decided rib.old prefix.now choice) }
     ensures err { OnErr result (rib.new ≡ rib.old) }
-    ensures listed { AreListedFrom net.now rib.new.best sessions.now start end lists.new.items }
+    ensures listed { AreListedFrom net.now rib.new.loc_rib sessions.now start end lists.new.items }
     ensures elsewhere { AreElsewhere start end lists.old.items lists.new.items }
 {
     let held = choice.as_ref();
     if let Err(no_memory) = add_decided(net, sessions, lists, start, end, prefix, held) {
-        keep_due(net, sessions, &rib.best, lists, start, end, prefix);
+        keep_due(net, sessions, &rib.loc_rib, lists, start, end, prefix);
         return Err(no_memory);
     }
     if let Err(no_memory) = rib.decide(prefix, choice) {
-        keep_due(net, sessions, &rib.best, lists, start, end, prefix);
+        keep_due(net, sessions, &rib.loc_rib, lists, start, end, prefix);
         return Err(no_memory);
     }
-    keep_due(net, sessions, &rib.best, lists, start, end, prefix);
+    keep_due(net, sessions, &rib.loc_rib, lists, start, end, prefix);
     Ok(())
 }
 
-// ---- the message
-
-// The announcement of what is offered of a choice.
-fn announced(
-    alloc: Global,
-    net: &Net,
-    from: DeviceId,
-    to: DeviceId,
-    prefix: &Prefix,
-    choice: &Choice,
-) -> Result<Option<Message>, AllocError>
-    ensures { IfOk result (λ o. o
-        ≡ option_map (Message.Announce prefix.now)
-        (offered_attributes net.now from to prefix.now (Some choice.now))) }
+/// How much each of these sessions owes, which stand at these places, is counted anew.
+pub fn count(tally: &mut Tally, lists: &[Owed], start: usize, end: usize)
+    requires inside { end ≤ length lists.now }
+    requires few { length lists.now < 2 ^ 32 }
+    requires many { length tally.old ≡ length lists.now }
+    ensures many { length tally.new ≡ length tally.old }
+    ensures these { (k : ℕ) (y : Listed) → start ≤ k → k < end
+        → slice_index tally.new k ≡ count_of (slice_index_or lists.now k y) }
+    ensures elsewhere { (k : ℕ) → (k < start) ⊎ (end ≤ k)
+        → slice_index tally.new k ≡ slice_index tally.old k }
 {
-    match net.offer_path(alloc, from, to, prefix, &choice.path, choice.origin)? {
-        Some(offer) => {
-            let Route { path, origin, .. } = offer;
-            Ok(Some(Message::Announce {
-                prefix: *prefix,
-                attributes: Attributes { path, origin },
-            }))
-        }
-        None => Ok(None),
+    for at in start..end {
+        tally.set(at as u32, lists[at].len());
     }
 }
 
-/// The first message of what a session owes.
-pub fn message(
-    alloc: Global,
-    net: &Net,
-    session: &Session,
-    best: &PrefixMap<Choice>,
-    lists: &Owed,
-) -> Result<Option<Message>, AllocError>
-    requires { IsListed
-        (owed net.now session.now.from session.now.to session.now.sent best.now) lists.now }
-    ensures { IfOk result (λ message. message
-        ≡ next_message (owed net.now session.now.from session.now.to session.now.sent best.now)) }
-{
-    if let Some(prefix) = lists.withdrawals.first() {
-        return Ok(Some(Message::Withdraw { prefix }));
-    }
-    let Some(prefix) = lists.announcements.first() else {
-        return Ok(None);
-    };
-    match best.get(&prefix) {
-        Some(choice) => announced(alloc, net, session.from, session.to, &prefix, choice),
-        None => Ok(None),
-    }
-}
+// ---- after a send
 
-/// A message is sent over a session, which owes its prefix no more.
+/// A message is sent over a session, which owes its prefixes no more.
 pub fn send(
     alloc: Global,
     session: &mut Session,
     lists: &mut Owed,
-    message: Option<Message>,
+    update: &Update,
 ) -> Result<(), AllocError>
-    requires { length session.old.mail < 64 }
-    ensures session { OnOk result (session.new ≡ put_out_if message session.old) }
-    ensures lists { OnOk result (lists.new ≡ without_message lists.old message) }
+    requires room { length session.old.mail < 64 }
+    requires fits { fits update.now ≡ true }
+    ensures session { OnOk result (session.new ≡ put_out update.now session.old) }
+    ensures lists { OnOk result (lists.new ≡ without_all lists.old (prefixes_of update.now)) }
     ensures err_session { OnErr result (session.new ≡ session.old) }
     ensures err_lists { OnErr result (lists.new ≡ lists.old) }
 {
-    let Some(message) = message else {
-        return Ok(());
-    };
-    let prefix = prefix_of(&message);
-    session.put_out(alloc, Some(message))?;
-    lists.keep(&prefix, Due::Nothing);
+    session.put_out(alloc, update)?;
+    lists.forget(update);
     Ok(())
 }

@@ -1,10 +1,12 @@
 //! What is pending, and which event comes first in the serial order.
 
-ghost use Rattle.std.specs.Prelude.{◌≡◌, ◌<◌, IfSome, length, option_copied};
+ghost use Rattle.std.specs.Prelude.{◌≡◌, ◌<◌, IfSome, Some, option_copied};
 ghost use Rattle.std.specs.List.{find};
-ghost use Rattle.cn_net.specs.Network.{IsDevice};
+ghost use Rattle.cn_net.specs.Network.{IsDevice, device_ids};
+ghost use Rattle.cn_core.specs.Owed.{owes};
+ghost use Rattle.cn_core.specs.OwedLists.{has_dirty};
 ghost use Rattle.cn_rib.specs.PrefixSet as set;
-ghost use Rattle.cn_core.specs.Order.{device_event, first_event, first_pending, has_mail, is_pending, owes_from, standing};
+ghost use Rattle.cn_core.specs.Order.{device_event, first_event, first_pending, has_mail, standing};
 ghost use Rattle.cn_core.specs.Whole.{ArePlacesOf};
 ghost use Rattle.cn_core.specs.State.{rib};
 
@@ -19,7 +21,24 @@ impl Engine {
     fn with_mail(&self) -> Option<&Session>
         ensures { option_copied result ≡ find has_mail self.now.sessions }
     {
-        self.sessions.iter().find(|x| 0 < x.mail.len())
+        let at = self.in_mail.first()?;
+        Some(&self.sessions[at as usize])
+    }
+
+    // The first session that owes something.
+    fn debtor(&self) -> Option<&Session>
+        ensures { option_copied result ≡ find (owes self.now) self.now.sessions }
+    {
+        let at = self.in_lists.first()?;
+        Some(&self.sessions[at as usize])
+    }
+
+    // The first device with a dirty prefix.
+    fn first_dirty(&self) -> Option<DeviceId>
+        ensures { result ≡ find (has_dirty self.now) (device_ids self.now.now.net) }
+    {
+        let device = self.in_ribs.first()?;
+        Some(DeviceId(device))
     }
 
     /// The places of the sessions from a device, which stand together: the first of them, and the
@@ -31,46 +50,32 @@ impl Engine {
         (start, end)
     }
 
-    // The first session from a device that owes something.
-    fn debtor_from(&self, device: DeviceId) -> Option<&Session>
-        ensures { option_copied result ≡ find (owes_from self.now device) self.now.sessions }
-    {
-        let (start, end) = self.places_from(device);
-        for at in start..end {
-            if self.owes(at) {
-                return Some(&self.sessions[at]);
-            }
-        }
-        None
-    }
-
     // The least dirty prefix of a device.
     fn least_dirty(&self, device: DeviceId) -> Option<Prefix>
-        requires { IsDevice self.now.net device }
+        requires { IsDevice self.now.now.net device }
         ensures { result ≡ set.least (rib self.now device).dirty }
     {
         self.rib(device).dirty.first()
     }
 
-    // Whether a device has a dirty prefix or owes one.
-    fn is_pending(&self, device: DeviceId) -> bool
-        requires { IsDevice self.now.net device }
-        ensures { result ≡ is_pending self.now device }
-    {
-        self.least_dirty(device).is_some() || self.debtor_from(device).is_some()
-    }
-
-    // The first pending device.
+    // The first pending device: one with a dirty prefix, or one that owes.
     fn first_pending(&self) -> Option<DeviceId>
-        ensures within { IfSome result (λ d. IsDevice self.now.net d) }
+        ensures within { IfSome result (λ d. IsDevice self.now.now.net d) }
         ensures first { result ≡ first_pending self.now }
     {
-        for d in 0..self.net.count() {
-            if self.is_pending(DeviceId(d)) {
-                return Some(DeviceId(d));
+        let _ = &self.certified;
+        match (self.first_dirty(), self.debtor()) {
+            (Some(device), Some(session)) => {
+                let from = session.from;
+                if from.0 < device.0 {
+                    return Some(from);
+                }
+                Some(device)
             }
+            (Some(device), None) => Some(device),
+            (None, Some(session)) => Some(session.from),
+            (None, None) => None,
         }
-        None
     }
 
     /// What is pending first.
@@ -89,15 +94,17 @@ impl Engine {
         }
     }
 
-    // The first event of a device that is pending.
+    // The first event of the first pending device.
     fn device_event(&self, device: DeviceId) -> Option<Event>
-        requires { IsDevice self.now.net device }
+        requires there { IsDevice self.now.now.net device }
+        requires first { first_pending self.now ≡ Some device }
         ensures { result ≡ device_event self.now device (set.least (rib self.now device).dirty) }
     {
         if let Some(prefix) = self.least_dirty(device) {
             return Some(Event::Decide { device, prefix });
         }
-        let session = self.debtor_from(device)?;
+        let _ = &self.certified;
+        let session = self.debtor()?;
         Some(Event::Send {
             from: session.from,
             to: session.to,

@@ -123,14 +123,15 @@ fn table(alloc: Global, best: &PrefixMap<Choice>) -> Result<Table, AllocError>
 impl Engine {
     /// The tables of these devices.
     pub fn tables(&self, alloc: Global, devices: &DeviceSet) -> Result<Tables, AllocError>
-        requires { All (IsDevice self.now.net) devices.now }
+        requires { All (IsDevice self.now.now.net) devices.now }
         ensures { IfOk result (λ tables. AreTables devices.now (held_in self.now) tables) }
     {
         let mut tables = Vec::with_capacity(alloc, devices.len())?;
         for device in devices.items() {
+            let rib = self.rib(*device);
             tables.push(DeviceTable {
                 device: *device,
-                table: table(alloc, &self.rib(*device).best)?,
+                table: table(alloc, &rib.loc_rib)?,
             })?;
         }
         Ok(Tables::make(tables))

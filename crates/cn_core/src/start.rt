@@ -1,22 +1,23 @@
 //! The state at the start: nothing was sent, the own prefixes of each emulated device are dirty,
 //! and each speaker holds what it says.
 
-ghost use Rattle.std.specs.Prelude.{◌≡◌, ◌<◌, All, IfErr, IfOk, OnOk, length, map, option_copied};
+ghost use Rattle.std.specs.Prelude.{◌≡◌, ◌<◌, ◌^◌, All, IfErr, IfOk, OnOk, length, map, option_copied};
 ghost use Rattle.cn_record.specs.Rows.{AscendsByPair};
-ghost use Rattle.cn_core.specs.OwedLists.{AreListed};
-ghost use Rattle.cn_core.specs.Start.{emulated_rib, first_rib, first_ribs, rows_of, said_routes, speaker_rib, start, with_choice};
+ghost use Rattle.cn_core.specs.OwedLists.{AreListed, IsRight, count_of};
+ghost use Rattle.cn_core.specs.Start.{emulated_rib, first_rib, first_ribs, first_sessions, rows_of, said_routes, speaker_rib, start, with_choice};
 ghost use Rattle.cn_core.specs.State.{empty_session};
 ghost use Rattle.cn_rib.specs.PrefixSet as set;
+ghost use Rattle.std.specs.FinMap as fin;
 
 use crate::engine::Engine;
-use crate::owed::{Owed, listed};
+use crate::owed::{Owed, count, listed};
 use crate::session::{Rib, Session};
 use cn_base::{Choice, DeviceId, Prefix};
 use cn_lists::part_at;
 use cn_mail::Mailbox;
-use cn_net::{Certified, DeviceSet, Net, Own, SessionIndex};
+use cn_net::{Certified, DeviceSet, Own, SessionIndex, session_count};
 use cn_record::{Recorded, Row};
-use cn_rib::{PrefixMap, PrefixSet};
+use cn_rib::{PrefixMap, PrefixSet, RibIn, RibOut, Tally};
 use std::alloc::{AllocError, Global};
 
 fn session(alloc: Global, from: DeviceId, to: DeviceId) -> Result<Session, AllocError>
@@ -25,9 +26,9 @@ fn session(alloc: Global, from: DeviceId, to: DeviceId) -> Result<Session, Alloc
     Ok(Session {
         from,
         to,
-        sent: PrefixMap::new(alloc),
+        adj_rib_out: RibOut::new(alloc),
         mail: Mailbox::new(alloc)?,
-        came: PrefixMap::new(alloc),
+        adj_rib_in: RibIn::new(alloc),
     })
 }
 
@@ -66,7 +67,7 @@ fn emulated_rib(alloc: Global, certified: &Certified, device: DeviceId) -> Resul
         None => PrefixSet::new(alloc),
     };
     Ok(Rib {
-        best: PrefixMap::new(alloc),
+        loc_rib: PrefixMap::new(alloc),
         dirty,
     })
 }
@@ -117,7 +118,7 @@ fn speaker_rib(alloc: Global, recorded: &Recorded, device: DeviceId) -> Result<R
     ensures { IfOk result (λ rib. rib ≡ speaker_rib recorded.now device) }
 {
     Ok(Rib {
-        best: said_routes(alloc, recorded, device)?,
+        loc_rib: said_routes(alloc, recorded, device)?,
         dirty: PrefixSet::new(alloc),
     })
 }
@@ -145,26 +146,96 @@ fn ribs(alloc: Global, recorded: &Recorded) -> Result<Vec<Rib>, AllocError>
 // What each session owes.
 fn lists(
     alloc: Global,
-    net: &Net,
+    certified: &Certified,
     sessions: &[Session],
     ribs: &[Rib],
 ) -> Result<Vec<Owed>, AllocError>
     requires { All (λ x. x.from.0 < length ribs.now) sessions.now }
     ensures { IfOk result (λ lists. AreListed
-        (record { net = net.now; sessions = sessions.now; ribs = ribs.now }) lists.items) }
+        (record { now = certified.now; sessions = sessions.now; ribs = ribs.now }) lists.items) }
 {
+    let net = certified.net();
     let mut lists = Vec::with_capacity(alloc, sessions.len())?;
     for session in sessions {
-        let best = &ribs[session.from.0 as usize].best;
-        lists.push(listed(alloc, net, session, best)?)?;
+        let rib = &ribs[session.from.0 as usize];
+        lists.push(listed(alloc, net, session, &rib.loc_rib)?)?;
     }
     Ok(lists)
+}
+
+// How much each session owes.
+fn counted_lists(alloc: Global, lists: &[Owed]) -> Result<Tally, AllocError>
+    requires { length lists.now < 2 ^ 32 }
+    ensures { IfOk result (λ tally. tally ≡ map count_of lists.now) }
+{
+    let mut tally = Tally::new(alloc, lists.len() as u32)?;
+    count(&mut tally, lists, 0, lists.len());
+    Ok(tally)
+}
+
+// How many prefixes of each device are dirty.
+fn counted_ribs(alloc: Global, ribs: &[Rib]) -> Result<Tally, AllocError>
+    requires { length ribs.now < 2 ^ 32 }
+    ensures { IfOk result (λ tally. tally ≡ map (λ x. fin.len x.dirty) ribs.now) }
+{
+    let mut tally = Tally::new(alloc, ribs.len() as u32)?;
+    for at in 0..ribs.len() {
+        let rib = &ribs[at];
+        tally.set(at as u32, rib.dirty.len() as u128);
+    }
+    Ok(tally)
 }
 
 /// The state at the start, and the emulated devices.
 pub struct Opened {
     pub engine: Engine,
     pub emulated: DeviceSet,
+}
+
+// What is made of an opening for the start.
+struct Parts {
+    index: SessionIndex,
+    sessions: Vec<Session>,
+    ribs: Vec<Rib>,
+    owed: Vec<Owed>,
+    in_mail: Tally,
+    in_lists: Tally,
+    in_ribs: Tally,
+    emulated: DeviceSet,
+}
+
+// What the start is made of.
+fn made(alloc: Global, recorded: &Recorded) -> Result<Parts, AllocError>
+    ensures sessions { IfOk result
+        (λ made. made.sessions.items ≡ first_sessions recorded.now.opening) }
+    ensures ribs { IfOk result (λ made. made.ribs.items ≡ first_ribs recorded.now) }
+    ensures right { IfOk result (λ made. IsRight (start recorded.now) made.index made.owed.items
+        made.in_mail made.in_lists made.in_ribs) }
+    ensures emulated { IfOk result (λ made. made.emulated ≡ recorded.now.opening.emulated) }
+{
+    recorded.valid();
+    let certified = recorded.certified();
+    let net = certified.net();
+    let emulated = certified.emulated();
+    let index = SessionIndex::make(alloc, net, emulated)?;
+    let slots = session_count(net, emulated);
+    let sessions = sessions(alloc, &index)?;
+    let ribs = ribs(alloc, recorded)?;
+    let owed = lists(alloc, certified, &sessions, &ribs)?;
+    let in_mail = Tally::new(alloc, slots as u32)?;
+    let in_lists = counted_lists(alloc, &owed)?;
+    let in_ribs = counted_ribs(alloc, &ribs)?;
+    let emulated = emulated.copy(alloc)?;
+    Ok(Parts {
+        index,
+        sessions,
+        ribs,
+        owed,
+        in_mail,
+        in_lists,
+        in_ribs,
+        emulated,
+    })
 }
 
 /// The state at the start. The opening is handed back for want of memory.
@@ -174,27 +245,30 @@ pub fn open(alloc: Global, recorded: Recorded) -> Result<Opened, Recorded>
     ensures emulated { IfOk result (λ made. made.emulated ≡ recorded.opening.emulated) }
     ensures err { IfErr result (λ back. back ≡ recorded) }
 {
-    let certified = recorded.certified();
-    let net = certified.net();
-    let Ok(index) = SessionIndex::make(alloc, net, certified.emulated()) else {
+    let Ok(parts) = made(alloc, &recorded) else {
         return Err(recorded);
     };
-    let (Ok(sessions), Ok(ribs)) = (sessions(alloc, &index), ribs(alloc, &recorded)) else {
-        return Err(recorded);
-    };
-    recorded.valid();
-    let Ok(owed) = lists(alloc, net, &sessions, &ribs) else {
-        return Err(recorded);
-    };
+    let Parts {
+        index,
+        sessions,
+        ribs,
+        owed,
+        in_mail,
+        in_lists,
+        in_ribs,
+        emulated,
+    } = parts;
     let (certified, _) = recorded.parts();
-    let (net, emulated, _) = certified.parts();
     Ok(Opened {
         engine: Engine {
-            net,
+            certified,
             index,
             sessions,
             ribs,
             owed,
+            in_mail,
+            in_lists,
+            in_ribs,
         },
         emulated,
     })

@@ -15,14 +15,13 @@ use Rattle.cn_core.specs.declared.event.Event.{Event}
 use Rattle.cn_core.specs.declared.event.Event.TheVariants.{Decide}
 use Rattle.cn_core.specs.declared.event.Step.{Step}
 use Rattle.cn_core.specs.declared.event.Step.TheVariants.{Work, Mark}
-use Rattle.cn_core.specs.declared.session.Session.{Session}
 use Rattle.cn_core.specs.Laws.{IsKept}
 use Rattle.cn_core.specs.Machine.{IsRunFrom, can, state}
 use Rattle.cn_core.specs.Order.{IsQuiet, first_pending, has_mail, is_pending, owes_from, receive_over, send_over}
 use Rattle.cn_core.specs.Play.{AreWork, after}
 use Rattle.cn_core.specs.Owed.{owed_by, owes}
 use Rattle.cn_core.specs.Start.{ends_of}
-use Rattle.cn_core.specs.State.{CoreState, rib, session}
+use Rattle.cn_core.specs.State.{CoreState, SessionState, rib, session}
 use Rattle.cn_core.proofs.Kept.{kept_run, run_holds}
 use Rattle.cn_core.proofs.Owes.{owes-empty}
 use Rattle.cn_core.proofs.Play.{after_append, run_append}
@@ -33,16 +32,16 @@ use Rattle.cn_serial.proofs.SerialPlay.{follows_run, follows_work, one_of}
 
 -- ---- what comes next is enabled
 
-receive_enabled : (s : CoreState) (x : Session) → Ascend (ends_of s.sessions)
+receive_enabled : (s : CoreState) (x : SessionState) → Ascend (ends_of s.sessions)
     → find has_mail s.sessions ≡ Some x → IsTrue (can s (receive_over x))
 receive_enabled s x apart f =
-    ap (λ (y : Session). nat_lt 0 (length y.mail)) (session_found has_mail s x apart f)
+    ap (λ (y : SessionState). nat_lt 0 (length y.mail)) (session_found has_mail s x apart f)
     ∙ found_passes has_mail s.sessions x f
 
 room_without_mail : (l : ℕ) → nat_lt 0 l ≡ false → nat_lt l 64 ≡ true
 room_without_mail l e = grind (arith, nat_tests)
 
-send_enabled : (s : CoreState) (x : Session) → Ascend (ends_of s.sessions)
+send_enabled : (s : CoreState) (x : SessionState) → Ascend (ends_of s.sessions)
     → find has_mail s.sessions ≡ None → find (owes s) s.sessions ≡ Some x
     → IsTrue (can s (send_over x))
 send_enabled s x apart none e =
@@ -52,12 +51,12 @@ send_enabled s x apart none e =
     (none_passes has_mail s.sessions none) e in
     ap (λ o. is_some o && (owes s (session s x.from x.to)
     && nat_lt (length (session s x.from x.to).mail) 64)) (found_apart (owes s) s.sessions x apart e)
-    ∙ ap (λ (y : Session). owes s y && nat_lt (length y.mail) 64) at
+    ∙ ap (λ (y : SessionState). owes s y && nat_lt (length y.mail) 64) at
     ∙ ap (λ b. b && nat_lt (length x.mail) 64) (found_passes (owes s) s.sessions x e)
     ∙ room_without_mail (length x.mail) empty
 
 exchange_enabled : (s : CoreState) (e : Event) → Ascend (ends_of s.sessions)
-    → (o p : Option Session) → find has_mail s.sessions ≡ o → find (owes s) s.sessions ≡ p
+    → (o p : Option SessionState) → find has_mail s.sessions ≡ o → find (owes s) s.sessions ≡ p
     → exchange_of o p ≡ Some e
     → IsTrue (can s e)
 exchange_enabled s e apart (Some x) p f g is =
@@ -90,16 +89,16 @@ decision_enabled s e (Some d) is =
 next_decision_enabled : (r : RecordedOpening) (s : CoreState) (e : Event) → IsKept r s
     → next_decision s ≡ Some e → IsTrue (can s e)
 next_decision_enabled r s e kept is =
-    decision_enabled s e (find (has_dirty s) (device_ids s.net)) is
+    decision_enabled s e (find (has_dirty s) (device_ids s.now.net)) is
 
 -- ---- nothing comes next exactly in a quiet state
 
-no_exchange : (o p : Option Session) → exchange_of o p ≡ None → (o ≡ None) × (p ≡ None)
+no_exchange : (o p : Option SessionState) → exchange_of o p ≡ None → (o ≡ None) × (p ≡ None)
 no_exchange (Some x) p e = cc
 no_exchange None (Some y) e = cc
 no_exchange None None e = (refl, refl)
 
-no_decision : (s : CoreState) (o : Option DeviceId) → find (has_dirty s) (device_ids s.net) ≡ o
+no_decision : (s : CoreState) (o : Option DeviceId) → find (has_dirty s) (device_ids s.now.net) ≡ o
     → decision_of s o ≡ None → o ≡ None
 no_decision s None f e = refl
 no_decision s (Some d) f e =
@@ -107,7 +106,7 @@ no_decision s (Some d) f e =
     (λ o. is_some o ≡ true → option_map (Decide d) o ≡ None → Some d ≡ None) [
       | None ↦ λ t e. absurd (true≢false (sym t))
       | Some p ↦ λ t e. cc
-    ] (found_passes (has_dirty s) (device_ids s.net) d f) e
+    ] (found_passes (has_dirty s) (device_ids s.now.net) d f) e
 
 and_false : (b c : Bool) → c ≡ false → (b && c) ≡ false
 and_false true c e = e
@@ -122,19 +121,19 @@ not_pending s d paid e =
     (λ x h. and_false (same_device x.from d) (owes s x) h) s.sessions paid))
 
 none_pending : (s : CoreState) → find (owes s) s.sessions ≡ None
-    → find (has_dirty s) (device_ids s.net) ≡ None → first_pending s ≡ None
+    → find (has_dirty s) (device_ids s.now.net) ≡ None → first_pending s ≡ None
 none_pending s n m =
-    nothing_found (is_pending s) (device_ids s.net)
+    nothing_found (is_pending s) (device_ids s.now.net)
     (All-weaker (λ d. has_dirty s d ≡ false) (λ d. is_pending s d ≡ false)
-    (λ d h. not_pending s d (none_passes (owes s) s.sessions n) h) (device_ids s.net)
-    (none_passes (has_dirty s) (device_ids s.net) m))
+    (λ d h. not_pending s d (none_passes (owes s) s.sessions n) h) (device_ids s.now.net)
+    (none_passes (has_dirty s) (device_ids s.now.net) m))
 
 quiet_where : (r : RecordedOpening) (s : CoreState) → IsKept r s → next_exchange s ≡ None
     → next_decision s ≡ None → IsQuiet s
 quiet_where r s k e d =
     let parts = no_exchange (find has_mail s.sessions) (find (owes s) s.sessions) e in
     stands_quiet r s k parts.0
-    (none_pending s parts.1 (no_decision s (find (has_dirty s) (device_ids s.net)) refl d))
+    (none_pending s parts.1 (no_decision s (find (has_dirty s) (device_ids s.now.net)) refl d))
 
 none_next : (s : CoreState) → IsQuiet s → (next_exchange s ≡ None) × (next_decision s ≡ None)
 none_next s q =
@@ -143,7 +142,7 @@ none_next s q =
     nothing_found (owes s) s.sessions
     (All-weaker (λ x. owed_by s x ≡ fin.empty) (λ x. owes s x ≡ false) (owes-empty s) s.sessions
     q.owed) in
-    let clean = nothing_found (has_dirty s) (device_ids s.net) (λ i x lt. clean_at _) in
+    let clean = nothing_found (has_dirty s) (device_ids s.now.net) (λ i x lt. clean_at _) in
     ((λ i. exchange_of (mail i) (paid i)), ap (decision_of s) clean)
   where
     clean_at : (d : DeviceId) → has_dirty s d ≡ false
@@ -236,10 +235,10 @@ rounds_work r s (x ∷ xs) kept are =
 pub rounds_hold : RoundLaw
 rounds_hold = record {
   none = λ r h run. (
-    λ e. quiet_where r (state r h) (run_holds r h run) e.0 e.1,
+    λ e. quiet_where r (state r h) (run_holds.kept r h run) e.0 e.1,
     λ q. none_next (state r h) q,
   );
-  some = λ r h x run busy is. some_step r (state r h) x (run_holds r h run) busy is;
+  some = λ r h x run busy is. some_step r (state r h) x (run_holds.kept r h run) busy is;
   one = one_rounds;
-  work = λ r h xs run are. rounds_work r (state r h) xs (run_holds r h run) are;
+  work = λ r h xs run are. rounds_work r (state r h) xs (run_holds.kept r h run) are;
 }

@@ -159,7 +159,7 @@ module _ (r : RecordedOpening) where
 
   kept_start : IsKept r (start r)
   unfolding IsRun state
-  kept_start = run_holds r [] tt
+  kept_start = run_holds.kept r [] tt
 
   -- a serial play is a play
   pub serial_play : (script : List Command) (h : List Step) → IsSerial r script h

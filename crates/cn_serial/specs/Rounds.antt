@@ -8,17 +8,16 @@ use Rattle.cn_record.specs.Recorded.{RecordedOpening}
 use Rattle.cn_core.specs.declared.event.Event.{Event}
 use Rattle.cn_core.specs.declared.event.Event.TheVariants.{Decide}
 use Rattle.cn_core.specs.declared.event.Step.{Step}
-use Rattle.cn_core.specs.declared.session.Session.{Session}
 use Rattle.cn_core.specs.Machine.{IsRun, IsRunFrom, state}
 use Rattle.cn_core.specs.Order.{IsQuiet, has_mail, receive_over, send_over}
 use Rattle.cn_core.specs.Play.{AreWork, after}
 use Rattle.cn_core.specs.Owed.{owes}
-use Rattle.cn_core.specs.State.{CoreState, rib}
+use Rattle.cn_core.specs.State.{CoreState, SessionState, rib}
 use Rattle.cn_serial.specs.Serial.{Follows}
 
 -- ---- what comes next
 
-abbrev pub exchange_of : Option Session → Option Session → Option Event
+abbrev pub exchange_of : Option SessionState → Option SessionState → Option Event
 exchange_of (Some x) y = Some (receive_over x)
 exchange_of None (Some y) = Some (send_over y)
 exchange_of None None = None
@@ -38,7 +37,7 @@ decision_of s (Some d) = option_map (Decide d) (set.least (rib s d).dirty)
 
 -- the decision of the least dirty prefix of the first device that has one
 abbrev pub next_decision : CoreState → Option Event
-next_decision s = decision_of s (find (has_dirty s) (device_ids s.net))
+next_decision s = decision_of s (find (has_dirty s) (device_ids s.now.net))
 
 -- ---- rounds
 

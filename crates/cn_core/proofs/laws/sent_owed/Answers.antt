@@ -1,4 +1,4 @@
-use Rattle.cn_core.proofs.Owes.{sent_owed_holds}
+use Rattle.cn_core.proofs.Sent.{sent_owed_holds}
 use Rattle.cn_core.proofs.laws.sent_owed.Goals as goal
 
 pub returns : goal.returns

@@ -1,7 +1,8 @@
-use Rattle.std.proofs.Common.{List, sym, ◌∙◌, subst}
+use Rattle.std.proofs.Common.{List, sym, ap, ◌∙◌, subst}
 use Rattle.std.specs.Prelude.{All}
 use Rattle.cn_base.specs.declared.ids.DeviceId.{DeviceId}
 use Rattle.cn_net.specs.Network.{Network, IsDevice}
+use Rattle.cn_net.specs.Opening.{Opening}
 use Rattle.cn_core.proofs.Logged.{kept_of}
 use Rattle.cn_core.proofs.Pulls.{pulled_again, pulled_quiet}
 use Rattle.cn_core.proofs.emulator.Core.pull.Goals as goal
@@ -11,7 +12,8 @@ tables-requires c =
     let k =
     kept_of c.self.inside.recorded.value c.self.inside.history.items c.self.inside.engine
     c.self.invariant.0 in
-    subst (λ (n : Network). All (IsDevice n) c.self.inside.emulated) (sym k.net)
+    subst (λ (n : Network). All (IsDevice n) c.self.inside.emulated) (sym (ap (λ
+    (o : Opening). o.net) k.now))
     (subst (λ (e : List DeviceId). All (IsDevice c.self.inside.recorded.value.opening.net) e)
     (sym c.self.invariant.1) c.self.invariant.0.recorded.opening.devices)
 

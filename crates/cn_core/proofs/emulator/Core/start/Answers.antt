@@ -9,6 +9,6 @@ invariant_of-result c =
     let same = c.of-opening.ensures in (
       subst (λ (r : RecordedOpening). IsState r c.new.result.items c.in-Ok.opened.engine) (sym same)
           (opened c.args.recorded c.new.result.items c.in-Ok.opened.engine c.valid.ensures
-          c.new.ensures.items c.in-Ok.ensures.engine),
+          c.numbers_fit.ensures c.new.ensures.items c.in-Ok.ensures.engine),
       c.in-Ok.ensures.emulated ∙ ap (λ (r : RecordedOpening). r.opening.emulated) (sym same),
     )

@@ -2,7 +2,7 @@ use Rattle.std.proofs.Common.{◌≡◌, Some, get_or, sym, ap, ◌∙◌, lengt
 use Rattle.std.specs.Prelude.{◌&&◌, nat_lt, is_some}
 use Rattle.std.specs.List.{find}
 use Rattle.cn_core.specs.Owed.{owes}
-use Rattle.cn_core.specs.State.{CoreState, empty_session, is_session, session}
+use Rattle.cn_core.specs.State.{CoreState, SessionState, empty_session, is_session, session}
 use Rattle.cn_core.proofs.Changed.{can_send_found}
 use Rattle.cn_core.proofs.Places.{found_at, not_found}
 use Rattle.cn_core.proofs.engine.Engine.can_send.Goals as goal
@@ -12,12 +12,14 @@ returns-then-owes c =
     let s = c.args.self.now in
     let a = c.args.from in
     let b = c.args.to in
-    let x = c.index.result.now in
+    let x = c.index-session.result.now in
     let read : x ≡ get_or s.sessions c.in-Some.at x =
-    c.index.ensures ∙ ap (λ (t : CoreState). get_or t.sessions c.in-Some.at x) c.self.view_is in
+    c.index-session.ensures ∙ ap (λ
+    (t : CoreState). get_or t.sessions c.in-Some.at x) c.self.view_is in
     let found : find (is_session a b) s.sessions ≡ Some x =
     found_at a b s.sessions c.in-Some.at x c.in-Some.ensures ∙ ap Some (sym read) in
-    ap (λ l. nat_lt l 64) c.len.ensures.length
+    ap (λ l. nat_lt l 64) (c.len.ensures.length ∙ ap (λ
+    (y : SessionState). length y.mail) c.session.view_is)
     ∙ ap (λ t. t && nat_lt (length x.mail) 64)
     (sym c.if-owes.true ∙ c.owes.ensures x ∙ ap (owes s) (sym read))
     ∙ can_send_found s a b x found

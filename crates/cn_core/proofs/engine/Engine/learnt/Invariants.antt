@@ -11,4 +11,4 @@ invariant-loop-place l =
     fold (λ best a. with_came l.self l.device l.prefix a best) (learnt_choice l.best)
     (map (sender_at l.self-inside.index) (drop l.place-index l.place-items))
     ≡ fold (λ best a. with_came l.self l.device l.prefix a best) None
-    (filter (has_session l.self l.device) (device_ids l.self.net))
+    (filter (has_session l.self l.device) (device_ids l.self.now.net))

@@ -1,41 +1,40 @@
-use Rattle.std.proofs.Common.{sym, ◌<◌, length, ap, subst, arith}
-use Rattle.cn_core.specs.declared.session.Session.{Session}
-use Rattle.cn_core.proofs.Changed.{both_ok, place_within, read_session, receive_whole}
-use Rattle.cn_core.specs.State.{CoreState}
+use Rattle.std.proofs.Common.{◌≡◌, ℕ, ◌<◌, List, length, set, sym, ap, ◌∙◌, subst}
+use Rattle.cn_core.specs.Machine.{receive}
+use Rattle.cn_core.specs.OwedLists.{AreCounted}
+use Rattle.cn_core.specs.State.{CoreState, SessionState}
 use Rattle.cn_core.specs.Whole.{IsWhole}
-use Rattle.cn_core.proofs.ListsKept.{right-receive}
+use Rattle.cn_core.proofs.Changed.{place_within, receive_whole}
+use Rattle.cn_core.proofs.Counted.{counted-receive, dirty_of, laid_of, mail_of, right_of}
+use Rattle.cn_core.proofs.ListsKept.{right_received, state_of}
 use Rattle.cn_core.proofs.Places.{session_nowhere}
 use Rattle.cn_core.proofs.engine.Engine.receive.Goals as goal
 
-pub receive-requires : goal.receive-requires
-receive-requires c =
-    let at =
-    read_session c.self.inside.net c.self.inside.sessions.items c.self.inside.ribs.items
-    c.args.self.now c.self.view_is c.args.from c.args.to c.in-Some.at c.index_mut.result.now
-    c.in-Some.ensures c.index_mut.ensures.value in
-    subst (λ (x : Session). 0 < length x.mail) at c.requires
+pub returns-in_default-clause-ok : goal.returns-in_default-clause-ok
+returns-in_default-clause-ok c =
+    sym (ap (λ (x : SessionState). receive c.args.self.now c.args.from c.args.to x.mail)
+    (session_nowhere c.args.self.now c.args.from c.args.to c.in_default.ensures))
 
-pub returns-in-Some-clause-ok : goal.returns-in-Some-clause-ok
-returns-in-Some-clause-ok c =
+pub returns-clause-ok : goal.returns-clause-ok
+returns-clause-ok c =
     let s = c.args.self.now in
-    both_ok c.receive.result
-    (λ x y. receive_whole c.self.inside.net c.self.inside.sessions.items c.self.inside.ribs.items s
-    c.self.view_is c.args.from c.args.to c.in-Some.at c.index_mut.result.now c.receive.new.session
-    c.index_mut-in-Some.result.now c.receive.new.rib c.in-Some.ensures c.index_mut.ensures.value
+    receive_whole c.self.inside.certified c.self.inside.sessions.items c.self.inside.ribs.items s
+    c.self.view_is c.args.from c.args.to c.in-Some.at c.index_mut-session.result.now
+    c.receive.new.session c.index_mut-rib.result.now c.receive.new.rib c.in-Some.ensures
+    c.index_mut-session.ensures.value
     (place_within s c.args.from c.args.to c.in-Some.at
     (subst IsWhole c.self.view_is c.self.invariant.whole) c.in-Some.ensures).1
-    c.index_mut-in-Some.ensures.value c.requires x y)
-    c.receive.ensures.session c.receive.ensures.rib
+    c.index_mut-rib.ensures.value c.in_ok-receive.ensures.session c.in_ok-receive.ensures.rib
 
-pub returns-in-None-clause-ok : goal.returns-in-None-clause-ok
-returns-in-None-clause-ok c =
-    let e = session_nowhere c.args.self.now c.args.from c.args.to c.in-None.ensures in
-    absurd (omega (arith, ap (λ (x : Session). length x.mail) e, c.requires))
-
-pub invariant_of-self : goal.invariant_of-self
-invariant_of-self c =
+pub invariant_of-self-2 : goal.invariant_of-self-2
+invariant_of-self-2 c =
     let s = c.args.self.now in
+    let in' = c.self.inside in
     let at = c.in-Some.at in
+    let x = c.receive.new.session in
+    let y = c.receive.new.rib in
+    let ss = in'.sessions.items in
+    let rs = in'.ribs.items in
+    let os = in'.owed.items in
     let w = subst IsWhole c.self.view_is c.self.invariant.whole in
     let inside =
     subst (λ (t : CoreState). at < length t.sessions) (sym c.self.view_is)
@@ -43,9 +42,21 @@ invariant_of-self c =
     let within =
     subst (λ (t : CoreState). c.args.to.0 < length t.ribs) (sym c.self.view_is)
     (place_within s c.args.from c.args.to at w c.in-Some.ensures).1 in
-    right-receive c.self.inside.net c.self.inside.sessions.items c.self.inside.ribs.items
-    c.self.inside.index c.self.inside.owed.items c.self.invariant c.receive.result at c.args.to.0
-    c.index_mut.result.now c.receive.new.session c.index_mut-in-Some.result.now c.receive.new.rib
-    inside c.index_mut.ensures.value within c.index_mut-in-Some.ensures.value
-    c.receive.ensures.session c.receive.ensures.rib c.receive.ensures.err_session
-    c.receive.ensures.err_rib
+    let mail : c.set.new.self ≡ set in'.in_mail at (mail_of x) =
+    c.set.ensures
+    ∙ ap (set in'.in_mail at) (c.len-left.ensures.length ∙ ap mail_of c.session.view_is) in
+    let dirty : c.set-2.new.self ≡ set in'.in_ribs c.args.to.0 (dirty_of y) =
+    c.set-2.ensures ∙ ap (set in'.in_ribs c.args.to.0) (c.len.ensures
+    ∙ ap dirty_of c.rib.view_is) in
+    let new = state_of in'.certified (set ss at x) (set rs c.args.to.0 y) in
+    right_of new in'.index os c.set.new.self in'.in_lists c.set-2.new.self
+    (right_received in'.certified ss rs in'.index os
+    (laid_of (state_of in'.certified ss rs) in'.index os in'.in_mail in'.in_lists in'.in_ribs
+    c.self.invariant)
+    at c.args.to.0 c.index_mut-session.result.now x c.index_mut-rib.result.now y inside
+    c.index_mut-session.ensures.value within c.index_mut-rib.ensures.value
+    c.in_ok-receive.ensures.session c.in_ok-receive.ensures.rib)
+    (subst (λ (ns : List ℕ × List ℕ). AreCounted new os ns.0 in'.in_lists ns.1)
+    (λ i. (sym mail i, sym dirty i))
+    (counted-receive in'.certified ss rs os in'.in_mail in'.in_lists in'.in_ribs
+    c.self.invariant.counted at c.args.to.0 x y))

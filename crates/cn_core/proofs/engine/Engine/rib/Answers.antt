@@ -15,6 +15,6 @@ index-requires c =
 pub returns : goal.returns
 returns c =
     let w = subst IsWhole c.self.view_is c.self.invariant.whole in
-    read_rib c.self.inside.net c.self.inside.sessions.items c.self.inside.ribs.items
+    read_rib c.self.inside.certified c.self.inside.sessions.items c.self.inside.ribs.items
     c.args.self.now c.self.view_is c.args.device c.index.result.now
     (device_within c.args.self.now c.args.device w c.requires) c.index.ensures
