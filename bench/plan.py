@@ -72,17 +72,18 @@ def plan():
 
 # ---- a fabric of pods with records
 
-# The first rack's pod is emulated with the spines, but for its other racks.
-RECORDED_PODS, RECORDED_LEAVES, RECORDED_RACKS, RECORDED_SPINES, SHIFT = 16, 8, 32, 16, 3
+# Pods, leaves and racks of each, spines, and the number of the first rack's prefix.
+RECORDED = (16, 8, 32, 16, 3)
 
 
-def recorded_plan():
-    """A plan of that fabric with sound records, and how many records it has. An outside rack or
-    leaf holds for each prefix of a rack of its pod, where the emulated devices are away: a rack
-    its own, a leaf the rack's, and another rack that of the first leaf, which has the lowest
-    router id. The racks beside the emulated one are islands of one device each."""
-    pods, leaves, racks = range(RECORDED_PODS), range(RECORDED_LEAVES), range(RECORDED_RACKS)
-    spines = range(RECORDED_SPINES)
+def recorded_plan(shape=RECORDED):
+    """A plan of that fabric with sound records, and how many records it has. The first rack is
+    emulated, with the leaves of its pod and the spines. An outside rack or leaf holds for each
+    prefix of a rack of its pod, where the emulated devices are away: a rack its own, a leaf the
+    rack's, and another rack that of the first leaf, which has the lowest router id. The racks
+    beside the emulated one are islands of one device each."""
+    shift, in_pod = shape[4], shape[2]
+    pods, leaves, racks, spines = map(range, shape[:4])
     device, link, record = [], [], []
 
     def add(name, layer, asn, own=()):
@@ -92,10 +93,10 @@ def recorded_plan():
         record.append(record_text(*row))
 
     def prefix(pod, rack):
-        return prefix_of(SHIFT + pod * RECORDED_RACKS + rack)
+        return prefix_of(shift + pod * in_pod + rack)
 
     def system(pod, rack):
-        return 4200010000 + pod * RECORDED_RACKS + rack
+        return 4200010000 + pod * in_pod + rack
 
     for i in pods:
         for j in racks:
