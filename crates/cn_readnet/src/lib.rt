@@ -10,7 +10,10 @@
 #![tactic(auto)]
 
 mod device;
+mod entry;
 mod link;
+mod own;
+mod peer;
 mod plan;
 mod record;
 mod selection;
