@@ -33,8 +33,8 @@ def owns(device):
 
 
 def entry(text):
-    """An entry of a prefix list: whether it permits, its prefix, and the least and the greatest length
-    that it matches."""
+    """An entry of a prefix list: whether it permits, its prefix, and the least and the greatest
+    length that it matches."""
     word, prefix, *bounds = text.split()
     bounds = dict(zip(bounds[0::2], map(int, bounds[1::2])))
     front, length = by_prefix(prefix)
@@ -43,8 +43,8 @@ def entry(text):
 
 
 def permits(entries, prefix):
-    """Whether a list permits a prefix: the first entry that matches decides, and no match denies. No list
-    permits everything."""
+    """Whether a list permits a prefix: the first entry that matches decides, and no match denies.
+    No list permits everything."""
     if entries is None:
         return True
     front, length = by_prefix(prefix)

@@ -1,12 +1,12 @@
 #!/usr/bin/env python3
-"""Demands of made up plans, with policies and links that are down, the tables that fixpoint.py computes.
+"""Demands of made up plans, with policies and links that are down, the tables of fixpoint.py.
 
     acceptance/generated.py PROGRAM [PLANS [FIRST]]
 
-Each plan is made from a number, from FIRST (0) on. Its few devices have few AS numbers, prefixes that
-cover one another, and lists that let a part of them through, so that loops, longer paths and routes of
-equal length are common. All are emulated, and the program runs them until they are quiet. Ends with
-status 1 and the number and the plan where it shows other tables.
+Each plan is made from a number, from FIRST (0) on. Its few devices have few AS numbers, prefixes
+that cover one another, and lists that let a part of them through, so that loops, longer paths and
+routes of equal length are common. All are emulated, and the program runs them until they are quiet.
+Ends with status 1 and the number and the plan where it shows other tables.
 """
 import json
 import pathlib

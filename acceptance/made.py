@@ -51,8 +51,8 @@ def star(count):
 
 
 def prepended(count):
-    """What a rack t1, a leaf l1 and a spine s1 in a line show where the rack offers its prefix with so
-    many copies of its number. The leaf's number makes a path one longer, and 255 is the most."""
+    """What a rack t1, a leaf l1 and a spine s1 in a line show where the rack offers its prefix with
+    so many copies of its number. The leaf's number makes a path one longer, and 255 is the most."""
     path = " ".join(["65101"] * count)
     lines = ["1 work done", "2 pull quiet", "table t1", "10.1.1.0/24 own path - origin igp"]
     lines += ["table l1", f"10.1.1.0/24 from t1 path {path} origin igp", "table s1"]

@@ -5,9 +5,9 @@
 
 It compares standard output, the status and the files that are left; standard error must be empty.
 Some cases more are programs: boundary.py runs a part of a fabric and the whole of it, fixpoint.py
-computes the tables that the cases expect, and generated.py compares them on made up plans; launch.py
-tries the scripts that build and run the program, and tools.py those of tools/. Where SCRIPT, the script `crystal`, is named too, it must
-answer as the program does. Ends with 'N passed, M failed', and with status 1 where a case failed.
+computes the tables that the cases expect, generated.py compares them on made up plans, launch.py
+tries the scripts that build and run the program, and tools.py those of tools/. Where SCRIPT, the
+script `crystal`, is named too, it must answer as the program does. Ends with 'N passed, M failed', and with status 1 where a case failed.
 """
 import difflib
 import pathlib

@@ -43,9 +43,9 @@ must = []
 ";
 
 // Devices. With another name than its own: the first rack, which originates the other's prefix too,
-// or has a policy and an ORIGIN behind its prefix, or no AS number; the first leaf, which originates a prefix; the second leaf,
-// with the router id of the first. The third rack originates the second's prefix, and x1 has no
-// links.
+// or has a policy and an ORIGIN behind its prefix, or no AS number; the first leaf, which
+// originates a prefix; the second leaf, with the router id of the first. The third rack originates
+// the second's prefix, and x1 has no links.
 const DEVICES: &str = "
 # t1
 [[device]]

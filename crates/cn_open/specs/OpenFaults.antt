@@ -27,8 +27,9 @@ HasFirstFault sound bytes net fault =
     (e : Emulation) × StandsFor bytes e × (net ≡ e.net)
     × IsFirstFault e.net (is_outside e) e.rows fault
 
--- No plan is read from the text, for this reason; or the plan that is read has this fault; or the certificate of its
--- boundary is first refused for this; or this is the first record that isn't sound.
+-- No plan is read from the text, for this reason; or the plan that is read has this fault; or the
+-- certificate of its boundary is first refused for this; or this is the first record that isn't
+-- sound.
 abbrev pub IsOpenFault : Depth → List ℕ → OpenFault → Type 0
 IsOpenFault depth bytes (NoPlan why) = IsTextFault bytes why
 IsOpenFault depth bytes (Net draft fault) =

@@ -64,8 +64,8 @@ entry_within permit p between =
     if nat_le p.len between.0 && (nat_le between.0 between.1 && nat_le between.1 32)
     then Some (entry_with permit p between.0 between.1) else None
 
--- `permit` or `deny`, one space and a prefix, then ` ge ` and a length or nothing, then ` le ` and a
--- length or nothing; and the place after it
+-- `permit` or `deny`, one space and a prefix, then ` ge ` and a length or nothing, then ` le ` and
+-- a length or nothing; and the place after it
 unfoldable pub entry_at : List ℕ → Result (EntryValue × ℕ) Bad
 entry_at text = do
   action ← action_at text

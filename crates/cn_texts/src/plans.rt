@@ -170,7 +170,7 @@ const DEVICES: &[(&str, &str)] = &[
         "shape device[0].id",
     ),
     (
-        "name = \"a\"\nlayer = 1\nasn = 4294967295\nid = \"1.2.3.4\"\nown = \"1.0.0.0/8\"\npeer = 1\n",
+        "name = \"a\"\nlayer = 1\nasn = 4294967295\nid = \"1.2.3.4\"\nown = 1\npeer = 1\n",
         "shape device[0].own",
     ),
     ("name = \"a\"\nlayer = 256\n", "value device[0].layer"),

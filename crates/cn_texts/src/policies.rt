@@ -8,8 +8,8 @@ use cn_readnet::{NetText, read_net};
 use std::alloc::Global;
 use std::test::Fail;
 
-// A table of cases: what stands in front of its texts and behind them, and the texts, each with what
-// is read of it: the first device in words, or the kind of the first fault with its path.
+// A table of cases: what stands in front of its texts and behind them, and the texts, each with
+// what is read of it: the first device in words, or the kind of the first fault with its path.
 type Table = (
     &'static str,
     &'static str,

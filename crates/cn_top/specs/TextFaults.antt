@@ -1,4 +1,5 @@
--- The line of a file from which nothing is read. Paths lead to the key or the item that is at fault.
+-- The line of a file from which nothing is read. A path leads to the key or the item that is at
+-- fault.
 use Rattle.std.specs.Prelude.{ℕ, codes, List, [], ◌++◌}
 use Rattle.std.specs.Fmt.{decimal, signed_decimal}
 use Rattle.cn_open.specs.declared.fault.TextFault.{TextFault}

@@ -15,8 +15,7 @@ returns-in-Err-TooLong-clause-read g c =
     let before = g.S.Shelf.files c.args.shelf.now in
     let after = g.S.Shelf.files c.read.new.self in
     let once =
-    read_once c.args.file.now before after (search rules) (search rules) in
-    (
+    read_once c.args.file.now before after (search rules) (search rules) in (
       (long.0, long.1, (NoPlan (TooLong plan_limit), (refl, long.2), c.too_long.ensures)),
       once,
     )
