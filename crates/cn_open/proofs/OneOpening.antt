@@ -1,7 +1,7 @@
 -- What a plan's text opens with is one opening, or its fault is one, and never both. The layer
 -- above may cite each public lemma of this module, and of no other module here; `src/laws.rt` has
 -- the same as laws.
-use Rattle.std.proofs.Common.{◌≡◌, ℕ, Bool, List, length, Option, None, Err, refl, sym, ap, subst, ◌∙◌, ◌<◌, arith}
+use Rattle.std.proofs.Common.{◌≡◌, ℕ, Bool, List, length, Option, None, sym, ap, subst, ◌∙◌, ◌<◌, arith}
 use Rattle.std.proofs.lemmas.List.{ext_get_or}
 use Rattle.std.proofs.lemmas.Option.{unwrap_or-slice_get}
 use Rattle.cn_base.specs.declared.ids.DeviceId.{DeviceId}
@@ -23,8 +23,6 @@ use Rattle.cn_open.specs.declared.fault.OpenFault.TheVariants.{NoPlan, Net, Refu
 use Rattle.cn_open.specs.declared.fault.PlanFault.{PlanFault}
 use Rattle.cn_open.specs.declared.fault.TextFault.{TextFault}
 use Rattle.cn_open.specs.declared.fault.TextFault.TheVariants.{TooLong, Bad}
-use Rattle.cn_readnet.specs.Plan.{plan_of}
-use Rattle.cn_text.specs.declared.answer.TextAnswer.{TextAnswer}
 use Rattle.cn_readnet.specs.declared.plan.NetText.{NetText}
 use Rattle.cn_open.proofs.OneEmulation.{one_emulation, one_text, stands_faultless}
 use Rattle.cn_open.proofs.OnePlanFault.{plan_fault_deepens, plan_fault_one}
