@@ -7,7 +7,7 @@ It is where the cases' tables of whole networks come from, and it knows nothing 
 message, mailbox or order. It starts from no routes and lets every device at once take the best of its own
 route and of what its neighbours offer it, again and again until nothing changes. A route that is offered
 is longer than the one that it was made of, so each time the routes of one more length are settled for good.
-It knows no policies and no records.
+It knows no records.
 """
 import sys
 import tomllib
@@ -30,6 +30,38 @@ def by_prefix(prefix):
 def owns(device):
     """The prefixes that the device originates, each with its ORIGIN."""
     return [(own.split() + ["igp"])[:2] for own in device.get("own", [])]
+
+
+def entry(text):
+    """An entry of a prefix list: whether it permits, its prefix, and the least and the greatest
+    length that it matches."""
+    word, prefix, *bounds = text.split()
+    bounds = dict(zip(bounds[0::2], map(int, bounds[1::2])))
+    front, length = by_prefix(prefix)
+    greatest = bounds.get("le", 32 if "ge" in bounds else length)
+    return word == "permit", (front, length), bounds.get("ge", length), greatest
+
+
+def permits(entries, prefix):
+    """Whether a list permits a prefix: the first entry that matches decides, and no match denies.
+    No list permits everything."""
+    if entries is None:
+        return True
+    front, length = by_prefix(prefix)
+    for permit, (within, common), least, greatest in map(entry, entries):
+        if least <= length <= greatest and front >> (32 - common) == within >> (32 - common):
+            return permit
+    return False
+
+
+def policies(plan):
+    """What a device's plan says of a peer, by the numbers of the two."""
+    place = {device["name"]: n for n, device in enumerate(plan["device"])}
+    return {
+        (n, place[peer["name"]]): peer
+        for n, device in enumerate(plan["device"])
+        for peer in device.get("peer", [])
+    }
 
 
 def neighbours(plan):
@@ -55,7 +87,18 @@ def rank(device, choice):
     return 1, len(path), ORIGINS.index(origin), address(device[sender]["id"])
 
 
-def best_of_all(device, linked, held):
+def offered(device, policy, a, b, prefix, path):
+    """The path with which `a` offers a prefix to `b`, or None where `b` doesn't take it."""
+    told, heard = policy.get((a, b), {}), policy.get((b, a), {})
+    if not permits(told.get("export"), prefix) or not permits(heard.get("import"), prefix):
+        return None
+    # The sender's AS number goes in front (RFC 4271, 5.1.2), as often as its policy says.
+    path = (device[a]["asn"],) * (1 + told.get("prepend", 0)) + path
+    # A path has so many numbers at most, and no AS loop (RFC 4271, 9.1.2).
+    return None if len(path) > LONGEST or device[b]["asn"] in path else path
+
+
+def best_of_all(device, linked, policy, held):
     """What each device takes where all devices hold `held`. A choice is the number of the device that it
     came from, or None for the device's own, the AS_PATH (empty for the device's own) and the ORIGIN."""
     taken = []
@@ -63,8 +106,8 @@ def best_of_all(device, linked, held):
         choices = {prefix: [(None, (), origin)] for prefix, origin in owns(receiver)}
         for a in linked[b]:
             for prefix, (_, path, origin) in held[a].items():
-                path = (device[a]["asn"],) + path  # the sender's AS number goes in front (RFC 4271, 5.1.2)
-                if len(path) <= LONGEST and receiver["asn"] not in path:  # no AS loop (RFC 4271, 9.1.2)
+                path = offered(device, policy, a, b, prefix, path)
+                if path is not None:
                     choices.setdefault(prefix, []).append((a, path, origin))
         taken.append({prefix: min(of, key=lambda c: rank(device, c)) for prefix, of in choices.items()})
     return taken
@@ -74,17 +117,16 @@ def read(name):
     """The plan of this file."""
     with open(name, "rb") as file:
         plan = tomllib.load(file)
-    if any("peer" in device for device in plan.setdefault("device", [])):
-        sys.exit("there are policies in this plan, and they aren't known here")
+    plan.setdefault("device", [])
     return plan
 
 
 def fixpoint(plan):
     """For each device the choice that it holds for each prefix in the end."""
-    device, linked = plan["device"], neighbours(plan)
+    device, linked, policy = plan["device"], neighbours(plan), policies(plan)
     held, before = [{} for _ in device], None
     while held != before:
-        held, before = best_of_all(device, linked, held), held
+        held, before = best_of_all(device, linked, policy, held), held
     return held
 
 

@@ -17,7 +17,7 @@ ROOT = pathlib.Path(__file__).resolve().parent.parent
 TOOLS = "awk bash cat chmod date dirname env find mktemp readlink rm sed sh tail touch tr".split()
 TOLD = {"crystal: 1 of 3 crates, 0 min", "crystal: 2 of 3 crates, 0 min"}
 COMMANDS = "plan serial replay save make sample live".split()
-STATUSES = [1, 2, 3, 4, 5, 7, 9]
+STATUSES = [1, 2, 3, 4, 5, 6, 7, 9]
 
 # A program that prints its words and ends with the status that its first word names, if it does.
 PROGRAM = """#!/bin/sh
@@ -195,17 +195,17 @@ def each_status_is_said(house):
     wants(len(said), len(STATUSES), "meanings that are said")
 
 
-def places(house, *words):
-    """What standard error says behind the line of status 9."""
-    status, stdout, stderr = house.run(*words, PLAYED="9")
-    wants((status, stdout), (9, house.prints(*words)), "status and output")
+def places(house, *words, played=6):
+    """What standard error says behind the line of status 6, or of another."""
+    status, stdout, stderr = house.run(*words, PLAYED=str(played))
+    wants((status, stdout), (played, house.prints(*words)), "status and output")
     front, *rest = stderr.splitlines() or [""]
-    wants(front.startswith("crystal: status 9: "), True, "a line of status 9")
+    wants(front.startswith(f"crystal: status {played}: "), True, f"a line of status {played}")
     return [line.partition(" stops at ")[0::2] for line in rest]
 
 
 def a_syntax_error_has_a_place(house):
-    """The first text that is no TOML is named, with a line and a column, and only at status 9."""
+    """The first text that is no TOML is named, with a line and a column, and only at 6 and 9."""
     house.with_program()
     house.with_python()
     right, wrong = house.home / "right.toml", house.home / "wrong.toml"
@@ -214,7 +214,8 @@ def a_syntax_error_has_a_place(house):
     os.mkfifo(house.home / "pipe")
     told = [("crystal: wrong.toml: a reader of TOML", "line 2, column 14: Unclosed array")]
     wants(places(house, "plan", "wrong.toml"), told, "a plan")
-    wants(places(house, "serial", "right.toml", "wrong.toml", "t.txt"), told, "a script")
+    words = ["serial", "right.toml", "wrong.toml", "t.txt"]
+    wants(places(house, *words, played=9), told, "a script")
     (house.home / "marked.toml").write_bytes(b"\xef\xbb\xbfversion = 1\r\n")
     for name in ("right.toml", "marked.toml", "absent.toml", ".", "pipe"):
         wants(places(house, "plan", name), [], name)
@@ -226,7 +227,7 @@ def a_syntax_error_has_a_place(house):
 
 
 def without_python_no_place_is_said(house):
-    """Where there is no python3, the line of status 9 stands alone."""
+    """Where there is no python3, the line of status 6 stands alone."""
     house.with_program()
     (house.home / "wrong.toml").write_text("version =\n")
     wants(places(house, "plan", "wrong.toml"), [], "no python3")

@@ -1,5 +1,5 @@
-"""Texts of cases that would be too long for a table: plans at the limits, what they print, and the
-traces of two devices that exchange more than a message holds."""
+"""Texts of cases that would be too long for a table: plans at the limits, what they print, the
+traces of two devices that exchange more than a message holds, and long paths."""
 
 MOST_PREFIXES = 16384
 
@@ -109,9 +109,21 @@ def pair_answers(prefixes):
     return "".join(line + "\n" for line in lines)
 
 
+def prepended(count):
+    """What a rack t1, a leaf l1 and a spine s1 in a line show where the rack offers its prefix with
+    so many copies of its number. The leaf's number makes a path one longer, and 255 is the most."""
+    path = " ".join(["65101"] * count)
+    lines = ["1 work done", "2 pull quiet", "table t1", "10.1.1.0/24 own path - origin igp"]
+    lines += ["table l1", f"10.1.1.0/24 from t1 path {path} origin igp", "table s1"]
+    if count < 255:
+        lines.append(f"10.1.1.0/24 from l1 path 65201 {path} origin igp")
+    return "".join(line + "\n" for line in lines)
+
+
 MAKERS = {
     "lone": lone,
     "lone-certified": lambda count: certified(numbered(count)),
+    "prepended": prepended,
     "star": star,
     "star-certified": lambda count: certified(["h", *numbered(count)]),
     "pair": lambda count: pair(slash_24s(count)),

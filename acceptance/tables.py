@@ -9,7 +9,8 @@ the key itself. A case has
   - a text, or
   - `{ plan = NAME }`, `{ script = NAME }` or `{ trace = NAME }`: the file of this name in `plans/`,
     `scripts/` or `traces/`, or
-  - `{ made = NAME, count = N }`: what `made.py` makes;
+  - `{ made = NAME, count = N }`: what `made.py` makes, or
+  - `{ octets = [N, ..] }`: these octets;
   and with `line_ends_within = N` or `line_ends_behind = N` in the braces so many line ends stand
   behind its first line or behind its last that it has N octets in all;
 - `edits` of its one file that is taken from `plans/`, one after another. Each is one of
@@ -125,6 +126,8 @@ def text_of(value, used, edits=()):
     """The octets that a value stands for."""
     if isinstance(value, str):
         return value.encode()
+    if value.keys() == {"octets"}:
+        return bytes(value["octets"])
     value = dict(value)
     within, behind = value.pop("line_ends_within", None), value.pop("line_ends_behind", None)
     text = base_of(value, used)

@@ -27,6 +27,14 @@ def device_text(number, name, layer, asn, own=()):
     return text + f"own = {listed(own)}\n" if own else text
 
 
+def peer_text(name):
+    """A policy for this peer, which lets all through that the plans have."""
+    lists = {"import": ["deny 10.0.0.0/8 ge 25", "permit 0.0.0.0/0 le 32"]}
+    lists["export"] = ["permit 10.0.0.0/8 ge 16 le 24", "permit 172.16.0.0/12"]
+    text = "".join(f"{key} = {listed(entries)}\n" for key, entries in lists.items())
+    return f'[[device.peer]]\nname = "{name}"\n{text}prepend = 1\n'
+
+
 def link_text(a, b):
     return f'[[link]]\na = "{a}"\nb = "{b}"\n'
 
@@ -58,15 +66,22 @@ def fabric():
     return devices, links
 
 
-def plan():
-    """A plan at the limits, whose emulated devices are to grow."""
+def plan(policies=False):
+    """A plan at the limits, whose emulated devices are to grow. With policies, each device has one
+    for each peer of its first two links."""
     devices, links = fabric()
+    peers = {name: [] for name, _, _ in devices}
+    for a, b in links if policies else []:
+        for one, other in ((a, b), (b, a)):
+            if len(peers[one]) < 2:
+                peers[one].append(peer_text(other))
     given = [f"p0r{j}" for j in range(GIVEN)]
     own = {name: [] for name in given}
     for n in range(PREFIXES):
         own[given[n % len(given)]].append(prefix_of(n))
     text = [f"version = 1\nmust = {listed(given)}\n"]
-    text += [device_text(n, *device, own.get(device[0], ())) for n, device in enumerate(devices)]
+    for n, device in enumerate(devices):
+        text += [device_text(n, *device, own.get(device[0], ())), *peers[device[0]]]
     return "".join(text + [link_text(a, b) for a, b in links])
 
 
@@ -247,12 +262,13 @@ def print_beside(title, text, whole, read):
 
 
 def at_the_limits(program, spot):
-    text = plan()
-    a, m = print_beside("limits", text, *beside_reading(program, spot, text))
-    whole = str(pathlib.Path(spot, "whole.toml"))
-    b, n = best([measured([sys.executable, "-c", READ, whole]) for _ in range(5)])
-    ratios = f"{a / b:.3f} and {m / n:.3f} of it"
-    print(f"  tomllib                {b:7.3f} s  {n / 1e6:7.1f} MB: {ratios}")
+    for title, text in (("limits", plan()), ("limits, with policies", plan(policies=True))):
+        whole, read = beside_reading(program, spot, text)
+        a, m = print_beside(title, text, whole, read)
+        path = str(pathlib.Path(spot, "whole.toml"))
+        b, n = best([measured([sys.executable, "-c", READ, path]) for _ in range(5)])
+        ratios = f"{a / b:.3f} and {m / n:.3f} of it, the reading {best(read)[0] / b:.3f}"
+        print(f"  tomllib                {b:7.3f} s  {n / 1e6:7.1f} MB: {ratios}", flush=True)
 
 
 def with_records(program, spot):

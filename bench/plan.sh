@@ -4,10 +4,10 @@
 #
 #     bench/plan.sh [DEVICES PREFIXES]
 #
-# Two plans are of fabrics: one at the limits (4,096 devices, 16,384 links, emulated devices that
-# grow from 1,012 to 1,024), and one of 656 devices with 19,231 records. For each the time and the
-# peak memory are printed, the best of five runs, beside Python's tomllib on the first, and the
-# memory that a record takes. The figures that count are the ratios, since machines differ.
+# Three plans are of fabrics: one at the limits (4,096 devices, 16,384 links, emulated devices that
+# grow from 1,012 to 1,024), the same with two policies on every device, and one of 656 devices with
+# 19,231 records. For each the time and the peak memory are printed, the best of five runs, beside
+# Python's tomllib on the first two, and the memory that a record takes. The figures that count are the ratios, since machines differ.
 #
 # Three more are the worst shapes for the check of records, with this many devices and prefixes
 # (4,096 and 16,384 where none are given): a chain with two AS numbers in turn, a chain of distinct

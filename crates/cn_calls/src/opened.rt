@@ -3,10 +3,14 @@
 use cn_given::pieces::text_of;
 use cn_given::tables::given;
 use cn_given::words::{self, compare};
-use cn_open::{Named, OpenAnswer, OpenFault, PLAN_LIMIT, PlanFault, name_plan, open_plan};
+use cn_open::{
+    Named, OpenAnswer, OpenFault, PLAN_LIMIT, PlanFault, TextFault, name_plan, open_plan,
+};
 use cn_plan::Selection;
 use cn_record::Recorded;
+use cn_text::TextAnswer;
 use std::alloc::Global;
+use std::str;
 use std::test::Fail;
 
 // The pieces of a plan, what it names, and what it opens with.
@@ -33,8 +37,8 @@ must t1 rows 1 devices 5
 t2 10.1.2.0/24: held own path 65102 origin igp wanted own path - origin igp
 # an empty text
 gives
-no plan
-no plan
+key version
+key version
 # a router id twice
 plan grown t1 t2 l1 l2-same-id s1 links
 gives
@@ -82,9 +86,20 @@ fn plan_fault(alloc: Global, fault: &PlanFault) -> Result<String, Fail> {
     }
 }
 
+fn text_fault(alloc: Global, why: &TextFault) -> Result<String, Fail> {
+    match why {
+        TextFault::TooLong { limit } => Ok(format!(in alloc; "more than {limit}")?),
+        TextFault::Bad(TextAnswer::Key { path }) => {
+            let path = str::from_utf8(path.items())?;
+            Ok(format!(in alloc; "key {path}")?)
+        }
+        TextFault::Bad(_) => Ok(String::from_str(alloc, "another fault")?),
+    }
+}
+
 fn open_fault(alloc: Global, fault: &OpenFault) -> Result<String, Fail> {
     match fault {
-        OpenFault::NoPlan => Ok(String::from_str(alloc, "no plan")?),
+        OpenFault::NoPlan(why) => text_fault(alloc, why),
         OpenFault::Net { fault, .. } => plan_fault(alloc, fault),
         OpenFault::Refused { net, refusal } => words::refusal(alloc, net, refusal),
         OpenFault::Unsound {

@@ -35,6 +35,11 @@ crystal plan q.toml
 holds q.toml four t1 t2 l1 l2 s1 links record stale-record
 ends Ok 1 1
 puts one-island
+# a policy and an ORIGIN
+crystal plan q.toml
+holds q.toml all t1-policy t2 l1 l2 s1 links
+ends Ok 1 1
+puts emulated
 # a device without links is an island of its own
 crystal plan q.toml
 holds q.toml grown t1 t2 l1 l2 s1 x1 links record
@@ -135,19 +140,37 @@ gives
 bad net: record t2 10.1.2.0/24 twice
 ";
 
-const UNBUILTS: &str = "
+// No plan is read from the file, whose name stands in the line.
+const BAD_TEXTS: &str = "
 # an empty text
-crystal plan q.toml
-holds q.toml
-ends Unbuilt 1 1
+crystal plan p.toml
+holds p.toml
+ends BadText 1 1
 gives
-not built yet: plan text
-# an ORIGIN behind a prefix
+bad text p.toml: key version
+# another version
 crystal plan q.toml
-holds q.toml all t1-origin t2 l1 l2 s1 links
-ends Unbuilt 1 1
+holds q.toml version
+ends BadText 1 1
 gives
-not built yet: plan text
+bad text q.toml: version -9
+# a device without its AS number
+crystal plan q.toml
+holds q.toml all t2 t1-no-number l1
+ends BadText 1 1
+gives
+bad text q.toml: key device[1].asn
+# a text that is no TOML, and the script isn't read
+crystal serial q.toml s.toml t.txt
+holds q.toml all all
+holds s.toml another-version
+ends BadText 1 1
+left t.txt nothing
+gives
+bad text q.toml: not toml
+";
+
+const UNBUILTS: &str = "
 # replay
 crystal replay q.toml s.toml t.txt
 ends Unbuilt 0 1
@@ -225,7 +248,8 @@ fn plans_are_certified(rt: HostRuntime) -> Result<(), Fail> {
 fn plans_are_refused(rt: HostRuntime) -> Result<(), Fail> {
     answer(rt.alloc(), BOUNDARIES)?;
     answer(rt.alloc(), RECORDS)?;
-    answer(rt.alloc(), BAD_NETS)
+    answer(rt.alloc(), BAD_NETS)?;
+    answer(rt.alloc(), BAD_TEXTS)
 }
 
 #[test]

@@ -26,6 +26,8 @@ emulate = [\"l1\"]
 # rack
 version = 1
 emulate = [\"t1\"]
+# version
+version = -9
 # unknown
 version = 1
 emulate = [\"t9\"]
@@ -41,9 +43,9 @@ must = []
 ";
 
 // Devices. With another name than its own: the first rack, which originates the other's prefix too,
-// or with an ORIGIN behind its prefix; the first leaf, which originates a prefix; the second leaf,
-// with the router id of the first. The third rack originates the second's prefix, and x1 has no
-// links.
+// or has a policy and an ORIGIN behind its prefix, or no AS number; the first leaf, which
+// originates a prefix; the second leaf, with the router id of the first. The third rack originates
+// the second's prefix, and x1 has no links.
 const DEVICES: &str = "
 # t1
 [[device]]
@@ -59,13 +61,19 @@ layer = 1
 asn = 65101
 id = \"10.0.0.1\"
 own = [\"10.1.1.0/24\", \"10.1.2.0/24\"]
-# t1-origin
+# t1-policy
 [[device]]
 name = \"t1\"
 layer = 1
 asn = 65101
 id = \"10.0.0.1\"
 own = [\"10.1.1.0/24 igp\"]
+peer = [{ name = \"l1\", import = [], export = [\"permit 0.0.0.0/0 le 32\"], prepend = 2 }]
+# t1-no-number
+[[device]]
+name = \"t1\"
+layer = 1
+id = \"10.0.0.1\"
 # t2
 [[device]]
 name = \"t2\"

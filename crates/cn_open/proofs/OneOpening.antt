@@ -1,7 +1,7 @@
 -- What a plan's text opens with is one opening, or its fault is one, and never both. The layer
 -- above may cite each public lemma of this module, and of no other module here; `src/laws.rt` has
 -- the same as laws.
-use Rattle.std.proofs.Common.{◌≡◌, ℕ, Bool, List, length, Option, None, refl, sym, ap, subst, ◌∙◌, ◌<◌}
+use Rattle.std.proofs.Common.{◌≡◌, ℕ, Bool, List, length, Option, None, sym, ap, subst, ◌∙◌, ◌<◌, arith}
 use Rattle.std.proofs.lemmas.List.{ext_get_or}
 use Rattle.std.proofs.lemmas.Option.{unwrap_or-slice_get}
 use Rattle.cn_base.specs.declared.ids.DeviceId.{DeviceId}
@@ -16,11 +16,13 @@ use Rattle.cn_record.specs.Recorded.{RecordedOpening}
 use Rattle.cn_open.specs.Depth.{Depth, named, sound}
 use Rattle.cn_open.specs.Emulation.{Emulation, ReadsPlan, StandsFor, is_outside}
 use Rattle.cn_open.specs.Faults.{IsPlanFault}
-use Rattle.cn_open.specs.OpenFaults.{HasFirstFault, IsBoundaryFault, IsOpenFault}
+use Rattle.cn_open.specs.OpenFaults.{HasFirstFault, IsBoundaryFault, IsOpenFault, IsTextFault}
 use Rattle.cn_open.specs.Opens.{IsSafePlan, IsUnsafePlan, Opens, OpensTo}
 use Rattle.cn_open.specs.declared.fault.OpenFault.{OpenFault}
 use Rattle.cn_open.specs.declared.fault.OpenFault.TheVariants.{NoPlan, Net, Refused, Unsound}
 use Rattle.cn_open.specs.declared.fault.PlanFault.{PlanFault}
+use Rattle.cn_open.specs.declared.fault.TextFault.{TextFault}
+use Rattle.cn_open.specs.declared.fault.TextFault.TheVariants.{TooLong, Bad}
 use Rattle.cn_readnet.specs.declared.plan.NetText.{NetText}
 use Rattle.cn_open.proofs.OneEmulation.{one_emulation, one_text, stands_faultless}
 use Rattle.cn_open.proofs.OnePlanFault.{plan_fault_deepens, plan_fault_one}
@@ -100,13 +102,32 @@ stands_no_net depth bytes e text fault (text', read, h) read' is =
     stands_faultless depth text' e fault h
     (subst (λ (t : NetText). IsPlanFault depth t fault) same is)
 
+-- ---- a text from which no plan is read
+
+-- none is
+reads_none : (bytes : List ℕ) (why : TextFault) → IsTextFault bytes why → (text : NetText)
+    → ReadsPlan bytes text → ⊥
+reads_none bytes (TooLong limit) (is, long) text (short, read) = omega (arith, long, short)
+reads_none bytes (Bad answer) (short, is) text (short', read) = absurd cc
+
+-- for one reason
+text_fault_one : (bytes : List ℕ) (v w : TextFault) → IsTextFault bytes v → IsTextFault bytes w
+    → v ≡ w
+text_fault_one bytes (TooLong l) (TooLong m) (e, long) (e', long') = ap TooLong (e ∙ sym e')
+text_fault_one bytes (TooLong l) (Bad b) (e, long) (short, is) =
+    absurd (omega (arith, long, short))
+text_fault_one bytes (Bad a) (TooLong m) (short, is) (e, long) =
+    absurd (omega (arith, long, short))
+text_fault_one bytes (Bad a) (Bad b) (short, is) (short', is') =
+    let same : a ≡ b = cc in ap Bad same
+
 -- ---- faults and openings
 
 -- a safe plan has no fault
 pub safe_faultless : (bytes : List ℕ) (f : OpenFault) → IsSafePlan bytes
     → IsOpenFault sound bytes f → ⊥
-safe_faultless bytes NoPlan (e, stands, safe) none =
-    let r = stands_reads bytes e stands in none r.0 r.1
+safe_faultless bytes (NoPlan why) (e, stands, safe) is =
+    let r = stands_reads bytes e stands in reads_none bytes why is r.0 r.1
 safe_faultless bytes (Net draft fault) (e, stands, safe) (text, read, same, is) =
     stands_no_net sound bytes e text fault stands read is
 safe_faultless bytes (Refused net refusal) safe h =
@@ -128,8 +149,8 @@ unsafe_unopened bytes r unsafe opens =
 -- its fault is one of the boundary
 pub unsafe_refused : (bytes : List ℕ) (f : OpenFault) → IsUnsafePlan bytes
     → IsOpenFault sound bytes f → IsBoundaryFault f
-unsafe_refused bytes NoPlan (e, stands, unsafe) none =
-    let r = stands_reads bytes e stands in absurd (none r.0 r.1)
+unsafe_refused bytes (NoPlan why) (e, stands, unsafe) is =
+    let r = stands_reads bytes e stands in absurd (reads_none bytes why is r.0 r.1)
 unsafe_refused bytes (Net draft fault) (e, stands, unsafe) (text, read, same, is) =
     absurd (stands_no_net sound bytes e text fault stands read is)
 unsafe_refused bytes (Refused net refusal) unsafe h = tt
@@ -166,12 +187,13 @@ boundary_fault_one : (depth : Depth) (bytes : List ℕ) (net net' : Network) (f 
 boundary_fault_one depth bytes net net' f g h k =
     let one = boundary_one depth bytes net net' f g h k in λ i. fault_with (one.0 i) (one.1 i)
 
-no_plan_alone : (depth : Depth) (bytes : List ℕ) (net : Network) (f : BoundaryFault)
-    → IsOpenFault depth bytes NoPlan → HasFirstFault depth bytes net f → ⊥
-no_plan_alone depth bytes net f none h =
+no_plan_alone : (depth : Depth) (bytes : List ℕ) (why : TextFault) (net : Network)
+    (f : BoundaryFault)
+    → IsTextFault bytes why → HasFirstFault depth bytes net f → ⊥
+no_plan_alone depth bytes why net f is h =
     let at = boundary_alone depth bytes net f h in
     let r = stands_reads bytes at.0 at.1 in
-    none r.0 r.1
+    reads_none bytes why is r.0 r.1
 
 net_alone : (depth : Depth) (bytes : List ℕ) (draft : Draft) (fault : PlanFault) (net : Network)
     (f : BoundaryFault)
@@ -193,29 +215,31 @@ net_one depth bytes draft draft' f g (text, read, is, h) (text', read', is', k) 
 -- a text has one fault at each depth
 pub fault_once : (depth : Depth) (bytes : List ℕ) (f g : OpenFault) → IsOpenFault depth bytes f
     → IsOpenFault depth bytes g → f ≡ g
-fault_once depth bytes NoPlan NoPlan h k = refl
-fault_once depth bytes NoPlan (Net draft fault) h (text, read, same, is) = absurd (h text read)
-fault_once depth bytes NoPlan (Refused net r) h k =
-    absurd (no_plan_alone depth bytes net (of_certificate r) h k)
-fault_once depth bytes NoPlan (Unsound net d p x y) h k =
-    absurd (no_plan_alone depth bytes net (of_record d p x y) h k)
-fault_once depth bytes (Net draft fault) NoPlan (text, read, same, is) k = absurd (k text read)
+fault_once depth bytes (NoPlan v) (NoPlan w) h k = ap NoPlan (text_fault_one bytes v w h k)
+fault_once depth bytes (NoPlan v) (Net draft fault) h (text, read, same, is) =
+    absurd (reads_none bytes v h text read)
+fault_once depth bytes (NoPlan v) (Refused net r) h k =
+    absurd (no_plan_alone depth bytes v net (of_certificate r) h k)
+fault_once depth bytes (NoPlan v) (Unsound net d p x y) h k =
+    absurd (no_plan_alone depth bytes v net (of_record d p x y) h k)
+fault_once depth bytes (Net draft fault) (NoPlan v) (text, read, same, is) k =
+    absurd (reads_none bytes v k text read)
 fault_once depth bytes (Net draft f) (Net draft' g) h k =
     net_one depth bytes draft draft' f g h k
 fault_once depth bytes (Net draft fault) (Refused net r) h k =
     absurd (net_alone depth bytes draft fault net (of_certificate r) h k)
 fault_once depth bytes (Net draft fault) (Unsound net d p x y) h k =
     absurd (net_alone depth bytes draft fault net (of_record d p x y) h k)
-fault_once depth bytes (Refused net r) NoPlan h k =
-    absurd (no_plan_alone depth bytes net (of_certificate r) k h)
+fault_once depth bytes (Refused net r) (NoPlan v) h k =
+    absurd (no_plan_alone depth bytes v net (of_certificate r) k h)
 fault_once depth bytes (Refused net r) (Net draft fault) h k =
     absurd (net_alone depth bytes draft fault net (of_certificate r) k h)
 fault_once depth bytes (Refused net r) (Refused net' s) h k =
     boundary_fault_one depth bytes net net' (of_certificate r) (of_certificate s) h k
 fault_once depth bytes (Refused net r) (Unsound net' d p x y) h k =
     boundary_fault_one depth bytes net net' (of_certificate r) (of_record d p x y) h k
-fault_once depth bytes (Unsound net d p x y) NoPlan h k =
-    absurd (no_plan_alone depth bytes net (of_record d p x y) k h)
+fault_once depth bytes (Unsound net d p x y) (NoPlan v) h k =
+    absurd (no_plan_alone depth bytes v net (of_record d p x y) k h)
 fault_once depth bytes (Unsound net d p x y) (Net draft fault) h k =
     absurd (net_alone depth bytes draft fault net (of_record d p x y) k h)
 fault_once depth bytes (Unsound net d p x y) (Refused net' r) h k =
@@ -228,7 +252,7 @@ fault_once depth bytes (Unsound net d p x y) (Unsound net' e q x' y') h k =
 -- a fault of a plan that is opened up to its names is its fault where it is opened deeper
 pub fault_deepens : (bytes : List ℕ) (f : OpenFault) → IsOpenFault named bytes f
     → IsOpenFault sound bytes f
-fault_deepens bytes NoPlan h = h
+fault_deepens bytes (NoPlan why) h = h
 fault_deepens bytes (Net draft fault) (text, read, same, is) =
     (text, read, same, plan_fault_deepens text fault is)
 fault_deepens bytes (Refused net refusal) h = absurd h

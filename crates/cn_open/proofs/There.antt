@@ -1,6 +1,6 @@
 -- A text opens or has a fault: that neither is there is refuted. The layer above may cite this
 -- module.
-use Rattle.std.proofs.Common.{◌≡◌, ℕ, ◌⊎◌, inl, inr, List, length, None, Some, Ok, Err, refl, sym, subst, ◌∙◌, arith}
+use Rattle.std.proofs.Common.{◌≡◌, ℕ, ◌⊎◌, inl, inr, List, length, None, Some, Ok, Err, refl, sym, subst, ◌∙◌}
 use Rattle.std.specs.Prelude.{find}
 use Rattle.std.specs.List.{flat_map}
 use Rattle.std.proofs.lemmas.Bool.{cases_lt}
@@ -21,16 +21,18 @@ use Rattle.cn_readnet.specs.declared.plan.NetText.{NetText}
 use Rattle.cn_record.specs.Recorded.{RecordedOpening}
 use Rattle.cn_record.proofs.Repeating.{saved_or_repeat}
 use Rattle.cn_open.specs.Depth.{named, sound}
-use Rattle.cn_open.specs.Emulation.{ReadsNone, ReadsPlan, plan_limit}
+use Rattle.cn_open.specs.Emulation.{ReadsPlan, plan_limit}
 use Rattle.cn_open.specs.Faults.{IsPlanFault, first_unknown, plan_names, row_names, selection_names}
 use Rattle.cn_open.specs.Named.{IsNamed, IsNamedAs}
-use Rattle.cn_open.specs.OpenFaults.{IsOpenFault}
+use Rattle.cn_open.specs.OpenFaults.{IsOpenFault, IsTextFault}
 use Rattle.cn_open.specs.Opens.{Opens}
 use Rattle.cn_open.specs.Steps.{unopened_answer}
 use Rattle.cn_open.specs.declared.fault.OpenFault.{OpenFault}
 use Rattle.cn_open.specs.declared.fault.OpenFault.TheVariants as open_fault
 use Rattle.cn_open.specs.declared.fault.PlanFault.{PlanFault}
 use Rattle.cn_open.specs.declared.fault.PlanFault.TheVariants as fault
+use Rattle.cn_open.specs.declared.fault.TextFault.{TextFault}
+use Rattle.cn_open.specs.declared.fault.TextFault.TheVariants as text_fault
 use Rattle.cn_open.specs.declared.naming.Named.{Named}
 use Rattle.cn_open.proofs.Known.{find-front_none, rows_there, selected_there, unborne}
 use Rattle.cn_open.proofs.Names.{find_behind}
@@ -39,15 +41,19 @@ use Rattle.cn_open.proofs.Openings.{named_answered, named_opens}
 
 -- ---- the plan is read
 
-text_there : (bytes : List ℕ) → ((text : NetText) × ReadsPlan bytes text) ⊎ ReadsNone bytes
+-- a plan is read from the text, or there is a reason why none is
+abbrev ReadsOrNot : List ℕ → Type 0
+ReadsOrNot bytes =
+    ((text : NetText) × ReadsPlan bytes text) ⊎ ((why : TextFault) × IsTextFault bytes why)
+
+text_there : (bytes : List ℕ) → ReadsOrNot bytes
 text_there bytes =
     elim (cases_lt plan_limit (length bytes)) [
-      | inl long ↦ inr (λ text (short, is). absurd (omega (arith, long, short)))
-      | inr short ↦ elim (plan_of bytes) as
-          (λ r. plan_of bytes ≡ r → ((text : NetText) × ReadsPlan bytes text) ⊎ ReadsNone bytes) [
-            | Ok text ↦ λ is. inl (text, (short, is))
-            | Err e ↦ λ is. inr (λ text (short, other). absurd cc)
-          ] refl
+      | inl long ↦ inr (text_fault.TooLong plan_limit, (refl, long))
+      | inr short ↦ elim (plan_of bytes) as (λ r. plan_of bytes ≡ r → ReadsOrNot bytes) [
+        | Ok text ↦ λ is. inl (text, (short, is))
+        | Err e ↦ λ is. inr (text_fault.Bad e, (short, is))
+      ] refl
     ]
 
 -- ---- its names are known
@@ -111,7 +117,7 @@ pub named_there : (bytes : List ℕ)
     → ((n : Named) × IsNamed bytes n) ⊎ ((f : OpenFault) × IsOpenFault named bytes f)
 named_there bytes =
     elim (text_there bytes) [
-      | inr none ↦ inr (open_fault.NoPlan, none)
+      | inr (why, is) ↦ inr (open_fault.NoPlan why, is)
       | inl (text, reads) ↦ elim (names_there bytes text reads) [
         | inl found ↦ inl found
         | inr (f, is) ↦ inr (open_fault.Net text.draft f, (text, reads, refl, is))

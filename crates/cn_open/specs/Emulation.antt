@@ -115,7 +115,3 @@ PlanStandsFor text e = IsEmulationOf text e × IsWithinLimits e.net e.emulated
 -- the text stands for what its plan stands for
 abbrev pub StandsFor : List ℕ → Emulation → Type 0
 StandsFor bytes e = (text : NetText) × ReadsPlan bytes text × PlanStandsFor text e
-
--- no plan is read from the text
-abbrev pub ReadsNone : List ℕ → Type 0
-ReadsNone bytes = (text : NetText) → ReadsPlan bytes text → ⊥

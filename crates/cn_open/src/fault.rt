@@ -7,6 +7,7 @@ ghost use Rattle.cn_open.specs.declared.fault.OpenAnswer.TheVariants.{Memory as 
 use cn_base::{Choice, DeviceId, Name, Prefix};
 use cn_cert::Refusal;
 use cn_net::{Draft, Net, NetFault, What};
+use cn_text::TextAnswer;
 use std::alloc::{AllocError, AllocFailed};
 
 /// Why a plan that is read stands for no emulation. Device numbers are places in the plan, from 0.
@@ -23,11 +24,20 @@ pub enum PlanFault {
     TooMany { what: What, count: u64 },
 }
 
+/// Why no plan is read from a text.
+#[derive(Debug, Drop)]
+pub enum TextFault {
+    /// It has more octets than this.
+    TooLong { limit: u64 },
+    /// Its first fault, with the place of it.
+    Bad(TextAnswer),
+}
+
 /// Why the text of a plan doesn't open.
 #[derive(Debug, Drop)]
 pub enum OpenFault {
     /// No plan is read from the text.
-    NoPlan,
+    NoPlan(TextFault),
     /// The plan stands for no emulation; its draft has the names.
     Net {
         draft: Draft,

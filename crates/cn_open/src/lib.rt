@@ -20,7 +20,7 @@ mod rows;
 mod selection;
 mod text;
 
-pub use fault::{OpenAnswer, OpenFault, PlanFault};
+pub use fault::{OpenAnswer, OpenFault, PlanFault, TextFault};
 pub use naming::{Named, name_plan};
 pub use opening::open_plan;
 pub use text::PLAN_LIMIT;

@@ -5,7 +5,7 @@ ghost use Rattle.cn_open.specs.Depth.{named};
 ghost use Rattle.cn_open.specs.Emulation.{ReadsPlan, plan_limit};
 ghost use Rattle.cn_open.specs.OpenFaults.{IsAnswerOf, IsOpenFault};
 
-use crate::fault::{OpenAnswer, OpenFault};
+use crate::fault::{OpenAnswer, OpenFault, TextFault};
 use cn_readnet::{NetText, read_net};
 use cn_text::TextAnswer;
 use std::alloc::Global;
@@ -13,8 +13,7 @@ use std::alloc::Global;
 /// The longest text of a plan, in octets.
 pub const PLAN_LIMIT: usize = 16_777_216;
 
-/// The plan as it is read from a text that is short enough. A text that isn't in the form of a plan
-/// is answered for with `NoPlan`, whatever is wrong with it.
+/// The plan as it is read from a text that is short enough, or the first fault of the text.
 pub fn plan_text(alloc: Global, bytes: &[u8]) -> Result<NetText, OpenAnswer>
     requires { length bytes.now ≤ plan_limit }
     ensures text { IfOk result (ReadsPlan bytes.now) }
@@ -23,6 +22,6 @@ pub fn plan_text(alloc: Global, bytes: &[u8]) -> Result<NetText, OpenAnswer>
     match read_net(alloc, bytes) {
         Ok(text) => Ok(text),
         Err(TextAnswer::Memory) => Err(OpenAnswer::Memory),
-        Err(_) => Err(OpenAnswer::Fault(OpenFault::NoPlan)),
+        Err(answer) => Err(OpenAnswer::Fault(OpenFault::NoPlan(TextFault::Bad(answer)))),
     }
 }

@@ -1,40 +1,104 @@
 -- The plan that a text stands for, or its first fault.
 -- Of a table its keys are read in the order that stands here, and after them a key that isn't
 -- listed is a fault.
-use Rattle.std.specs.Prelude.{ℕ, ℤ, pos, true, if◌then◌else◌, codes, List, [], ◌∷◌, ◌++◌, Option, Some, None, ok_or, Result, Ok, Err}
+use Rattle.std.specs.Prelude.{ℕ, ℤ, pos, Bool, true, if◌then◌else◌, codes, List, [], ◌∷◌, ◌++◌, Option, Some, None, ok_or, Result, Ok, Err}
 use Rattle.std.specs.Ordering.{int_eq}
-use Rattle.toml.specs.Data.{Data, Members, get_member, as_array}
-use Rattle.cn_base.specs.declared.ids.Origin.TheVariants.{Igp}
+use Rattle.toml.specs.Data.{Data, Members, get_member, as_array, as_bool}
+use Rattle.cn_base.specs.Entry.{EntryValue}
 use Rattle.cn_net.specs.declared.device.Own.{Own}
+use Rattle.cn_net.specs.declared.device.Policy.{Policy}
 use Rattle.cn_net.specs.declared.draft.DeviceDraft.{DeviceDraft}
 use Rattle.cn_net.specs.declared.draft.LinkDraft.{LinkDraft}
+use Rattle.cn_net.specs.declared.draft.PeerDraft.{PeerDraft}
 use Rattle.cn_text.specs.declared.answer.TextAnswer.{TextAnswer}
-use Rattle.cn_text.specs.declared.answer.TextAnswer.TheVariants.{Key, Shape, Version}
+use Rattle.cn_text.specs.declared.answer.TextAnswer.TheVariants.{Key, Shape, Value, Version}
 use Rattle.cn_table.specs.Document.{document_of}
 use Rattle.cn_lists.specs.Steps.{◌>>=◌}
-use Rattle.cn_table.specs.Tables.{front_of, needed, integer_of, table_of, name_in, name_at, name_if_at, address_at, prefix_in, prefix_at, path_at, origin_at, number_at, array_at, each, only}
+use Rattle.cn_table.specs.Tables.{front_of, needed, text_of, integer_of, table_of, name_in, name_at, name_if_at, address_at, prefix_at, path_at, origin_at, number_at, array_at, each, only}
+use Rattle.cn_readnet.specs.Atoms.{own_of, entry_of}
 use Rattle.cn_readnet.specs.declared.plan.NetText.{NetText}
 use Rattle.cn_readnet.specs.declared.record.RowDraft.{RowDraft}
 use Rattle.cn_readnet.specs.declared.selection.NameSelection.{NameSelection}
 use Rattle.cn_readnet.specs.declared.selection.NameSelection.TheVariants.{Must, Emulate}
 
--- a prefix alone, which the device originates with the ORIGIN igp (RFC 4271, 5.1.1)
-unfoldable pub own_of : List ℕ → Data → Result Own TextAnswer
-own_of path d = do
-  prefix ← prefix_in path d
-  Ok (record { prefix = prefix; origin = Igp })
+-- ---- devices
+
+-- a prefix that a device originates
+unfoldable pub own_in : List ℕ → Data → Result Own TextAnswer
+own_in path d = do
+  text ← text_of path d
+  ok_or (own_of text) (Value path)
 
 -- what a device originates, nothing where the key is absent
 unfoldable pub own_at : List ℕ → Members → Result (List Own) TextAnswer
 own_at front ms = do
   items ← array_at front (codes "own") ms
-  each own_of (front ++ codes "own") 0 items
+  each own_in (front ++ codes "own") 0 items
+
+-- an entry of a prefix list
+unfoldable pub entry_in : List ℕ → Data → Result EntryValue TextAnswer
+entry_in path d = do
+  text ← text_of path d
+  ok_or (entry_of text) (Value path)
+
+-- a prefix list, which an absent key isn't: an empty one denies all, and none permits all
+abbrev pub list_in : List ℕ → Option Data → Result (Option (List EntryValue)) TextAnswer
+list_in path None = Ok None
+list_in path (Some d) = do
+  items ← ok_or (as_array d) (Shape path)
+  entries ← each entry_in path 0 items
+  Ok (Some entries)
+
+unfoldable pub list_at : List ℕ → List ℕ → Members → Result (Option (List EntryValue)) TextAnswer
+list_at front key ms = list_in (front ++ key) (get_member key ms)
+
+-- how many more copies of its AS number than one a device puts in front, none where the key is
+-- absent
+abbrev pub prepend_if : Option Data → List ℕ → Members → Result ℕ TextAnswer
+prepend_if None front ms = Ok 0
+prepend_if (Some d) front ms = number_at 0 254 front (codes "prepend") ms
+
+unfoldable pub prepend_at : List ℕ → Members → Result ℕ TextAnswer
+prepend_at front ms = prepend_if (get_member (codes "prepend") ms) front ms
+
+-- what a device accepts from a peer, what it tells it, and how long it makes its paths
+unfoldable pub policy_in : List ℕ → Members → Result Policy TextAnswer
+policy_in front ms = do
+  heard ← list_at front (codes "import") ms
+  told ← list_at front (codes "export") ms
+  prepend ← prepend_at front ms
+  Ok (record { import = heard; export = told; prepend = prepend })
+
+abbrev pub peer_keys : List (List ℕ)
+peer_keys = codes "name" ∷ codes "import" ∷ codes "export" ∷ codes "prepend" ∷ []
+
+unfoldable pub only_peer_keys : List ℕ → Members → Result (Unit {0}) TextAnswer
+only_peer_keys front ms = only front peer_keys ms
+
+-- a peer, by its name, and the policy for it
+unfoldable pub peer_in : List ℕ → Members → Result PeerDraft TextAnswer
+peer_in front ms = do
+  name ← name_at front (codes "name") ms
+  policy ← policy_in front ms
+  no_more ← only_peer_keys front ms
+  Ok (record { name = name; policy = policy })
+
+unfoldable pub peer_of : List ℕ → Data → Result PeerDraft TextAnswer
+peer_of path d = do
+  ms ← table_of path d
+  peer_in (front_of path) ms
+
+-- the peers of a device that have a policy, none where the key is absent
+unfoldable pub peers_at : List ℕ → Members → Result (List PeerDraft) TextAnswer
+peers_at front ms = do
+  items ← array_at front (codes "peer") ms
+  each peer_of (front ++ codes "peer") 0 items
 
 abbrev pub device_keys : List (List ℕ)
-device_keys = codes "name" ∷ codes "layer" ∷ codes "asn" ∷ codes "id" ∷ codes "own" ∷ []
+device_keys =
+    codes "name" ∷ codes "layer" ∷ codes "asn" ∷ codes "id" ∷ codes "own" ∷ codes "peer" ∷ []
 
--- a device, which lists no peers: its AS number is not 0 (RFC 7607), and its BGP Identifier is
--- written as an address
+-- a device: its AS number is not 0 (RFC 7607), and its BGP Identifier is written as an address
 unfoldable pub device_in : List ℕ → Members → Result DeviceDraft TextAnswer
 device_in front ms = do
   name ← name_at front (codes "name") ms
@@ -42,12 +106,13 @@ device_in front ms = do
   asn ← number_at 1 4294967295 front (codes "asn") ms
   id ← address_at front (codes "id") ms
   own ← own_at front ms
+  peers ← peers_at front ms
   no_more ← only front device_keys ms
   Ok (record {
     name = name;
     layer = layer;
     id = record { 0 = id };
-    body = record { asn = record { 0 = asn }; own = own; peers = [] };
+    body = record { asn = record { 0 = asn }; own = own; peers = peers };
   })
 
 unfoldable pub device_of : List ℕ → Data → Result DeviceDraft TextAnswer
@@ -55,21 +120,34 @@ device_of path d = do
   ms ← table_of path d
   device_in (front_of path) ms
 
-abbrev pub link_keys : List (List ℕ)
-link_keys = codes "a" ∷ codes "b" ∷ []
+-- ---- links
 
--- a link, which is up, by the names of its ends
+-- whether a link is up, which it is where the key is absent
+abbrev pub up_in : List ℕ → Option Data → Result Bool TextAnswer
+up_in path None = Ok true
+up_in path (Some d) = ok_or (as_bool d) (Shape path)
+
+unfoldable pub up_at : List ℕ → Members → Result Bool TextAnswer
+up_at front ms = up_in (front ++ codes "up") (get_member (codes "up") ms)
+
+abbrev pub link_keys : List (List ℕ)
+link_keys = codes "a" ∷ codes "b" ∷ codes "up" ∷ []
+
+-- a link, by the names of its ends
 unfoldable pub link_in : List ℕ → Members → Result LinkDraft TextAnswer
 link_in front ms = do
   a ← name_at front (codes "a") ms
   b ← name_at front (codes "b") ms
+  up ← up_at front ms
   no_more ← only front link_keys ms
-  Ok (record { a = a; b = b; up = true })
+  Ok (record { a = a; b = b; up = up })
 
 unfoldable pub link_of : List ℕ → Data → Result LinkDraft TextAnswer
 link_of path d = do
   ms ← table_of path d
   link_in (front_of path) ms
+
+-- ---- records
 
 abbrev pub record_keys : List (List ℕ)
 record_keys = codes "device" ∷ codes "prefix" ∷ codes "path" ∷ codes "origin" ∷ codes "from" ∷ []
@@ -89,6 +167,8 @@ unfoldable pub record_of : List ℕ → Data → Result RowDraft TextAnswer
 record_of path d = do
   ms ← table_of path d
   record_in (front_of path) ms
+
+-- ---- the plan
 
 -- the version is 1
 abbrev pub is_version : ℤ → Result (Unit {0}) TextAnswer

@@ -3,43 +3,16 @@
 ghost use Rattle.std.specs.Prelude.{◌≡◌};
 ghost use Rattle.toml.specs.View.{view, table_view};
 ghost use Rattle.cn_table.specs.Reading.{Reads};
-ghost use Rattle.cn_readnet.specs.Plan.{own_of, own_at, device_in, device_of, devices_at};
+ghost use Rattle.cn_readnet.specs.Plan.{device_in, device_of, devices_at};
 
-use cn_base::{Asn, Items, Origin, RouterId};
-use cn_net::{BodyDraft, DeviceDraft, Own};
-use cn_table::{
-    Reader, address_at, array_at, each, front_of, key_path, name_at, number_at, only, prefix_in,
-    table_of,
-};
+use crate::own::own_at;
+use crate::peer::peers_at;
+use cn_base::{Asn, Items, RouterId};
+use cn_net::{BodyDraft, DeviceDraft};
+use cn_table::{Reader, address_at, array_at, each, front_of, name_at, number_at, only, table_of};
 use cn_text::TextAnswer;
 use std::alloc::Global;
 use toml::{Table, Value};
-
-struct OwnReader;
-
-impl Reader for OwnReader {
-    type Item = Own;
-
-    ghost reads = { λ _. own_of };
-
-    #[tactic(auto, unfolding(crate::specs::Plan::own_of))]
-    fn read(&self, alloc: Global, path: &[u8], value: &Value) -> Result<Own, TextAnswer> {
-        let prefix = prefix_in(alloc, path, value)?;
-        Ok(Own {
-            prefix,
-            origin: Origin::Igp,
-        })
-    }
-}
-
-#[tactic(auto, unfolding(crate::specs::Plan::own_at))]
-fn own_at(alloc: Global, front: &[u8], table: &Table) -> Result<Items<Own>, TextAnswer>
-    ensures { Reads result (own_at front.now (table_view table.now)) }
-{
-    let values = array_at(alloc, front, "own", table)?;
-    let path = key_path(alloc, front, b"own")?;
-    each(alloc, &OwnReader, &path, values)
-}
 
 #[tactic(auto, unfolding(crate::specs::Plan::device_in))]
 fn device_in(alloc: Global, front: &[u8], table: &Table) -> Result<DeviceDraft, TextAnswer>
@@ -50,7 +23,9 @@ fn device_in(alloc: Global, front: &[u8], table: &Table) -> Result<DeviceDraft, 
     let asn = number_at(alloc, 1, 4_294_967_295, front, "asn", table)?;
     let id = address_at(alloc, front, "id", table)?;
     let own = own_at(alloc, front, table)?;
-    only(alloc, front, &["name", "layer", "asn", "id", "own"], table)?;
+    let peers = peers_at(alloc, front, table)?;
+    let keys = ["name", "layer", "asn", "id", "own", "peer"];
+    only(alloc, front, &keys, table)?;
     Ok(DeviceDraft {
         name,
         layer: layer as u8,
@@ -58,7 +33,7 @@ fn device_in(alloc: Global, front: &[u8], table: &Table) -> Result<DeviceDraft, 
         body: BodyDraft {
             asn: Asn(asn),
             own,
-            peers: Items::make(Vec::new(alloc)),
+            peers,
         },
     })
 }

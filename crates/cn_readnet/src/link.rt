@@ -3,14 +3,28 @@
 ghost use Rattle.std.specs.Prelude.{◌≡◌};
 ghost use Rattle.toml.specs.View.{view, table_view};
 ghost use Rattle.cn_table.specs.Reading.{Reads};
-ghost use Rattle.cn_readnet.specs.Plan.{link_in, link_of, links_at};
+ghost use Rattle.cn_readnet.specs.Plan.{link_in, link_of, links_at, up_at};
 
 use cn_base::Items;
 use cn_net::LinkDraft;
-use cn_table::{Reader, array_at, each, front_of, name_at, only, table_of};
+use cn_table::{Reader, array_at, bad_shape_at, each, front_of, member, name_at, only, table_of};
 use cn_text::TextAnswer;
 use std::alloc::Global;
 use toml::{Table, Value};
+
+/// Whether a link is up, which it is where the key is absent.
+#[tactic(auto, unfolding(crate::specs::Plan::up_at))]
+fn up_at(alloc: Global, front: &[u8], table: &Table) -> Result<bool, TextAnswer>
+    ensures { Reads result (up_at front.now (table_view table.now)) }
+{
+    match member(table, "up") {
+        None => Ok(true),
+        Some(value) => match value.as_bool() {
+            Some(up) => Ok(up),
+            None => Err(bad_shape_at(alloc, front, b"up")),
+        },
+    }
+}
 
 #[tactic(auto, unfolding(crate::specs::Plan::link_in))]
 fn link_in(alloc: Global, front: &[u8], table: &Table) -> Result<LinkDraft, TextAnswer>
@@ -18,8 +32,9 @@ fn link_in(alloc: Global, front: &[u8], table: &Table) -> Result<LinkDraft, Text
 {
     let a = name_at(alloc, front, "a", table)?;
     let b = name_at(alloc, front, "b", table)?;
-    only(alloc, front, &["a", "b"], table)?;
-    Ok(LinkDraft { a, b, up: true })
+    let up = up_at(alloc, front, table)?;
+    only(alloc, front, &["a", "b", "up"], table)?;
+    Ok(LinkDraft { a, b, up })
 }
 
 struct LinkReader;

@@ -15,6 +15,7 @@ const TABLES: &[Table] = &[
     ("", WHOLE),
     ("version = 1\n", SELECTIONS),
     (ONE_DEVICE, DEVICES),
+    (ONE_LINK, LINKS),
     (ONE_RECORD, RECORDS),
 ];
 
@@ -74,6 +75,8 @@ record s2 0.0.0.0/0 path - Egp from -
     ("", "key version"),
     ("version = \"1\"\n", "shape version"),
     ("version = 2\n", "version 2"),
+    ("version = -9\nmust = 3\n", "version -9"),
+    ("version = 1.0\nmust = 3\n", "shape version"),
     ("version = 2\nmust = 3\n", "version 2"),
     (
         "version = 1\nemulate = []\ndevice = [1]\n",
@@ -86,6 +89,14 @@ record s2 0.0.0.0/0 path - Egp from -
     (
         "version = 1\nemulate = []\nlink = [{ a = \"t1\" }]\n",
         "key link[0].b",
+    ),
+    (
+        "version = 1\nemulate = []\ndevice = 1\nlink = 1\n",
+        "shape device",
+    ),
+    (
+        "version = 1\nemulate = []\nlink = 1\nrecord = 1\n",
+        "shape link",
     ),
     ("version = 1\nemulate = []\nrecord = 1\n", "shape record"),
     (
@@ -130,6 +141,38 @@ const ONE_DEVICE: &str = "version = 1\nemulate = []\n[[device]]\n";
 // Texts of one device and what follows it.
 const DEVICES: &[(&str, &str)] = &[
     ("layer = 1\n", "key device[0].name"),
+    ("name = 1\nlayer = \"1\"\n", "shape device[0].name"),
+    ("name = \"a b\"\nlayer = \"1\"\n", "value device[0].name"),
+    ("name = \"a\"\nasn = 0\n", "key device[0].layer"),
+    (
+        "name = \"a\"\nlayer = \"1\"\nasn = 0\n",
+        "shape device[0].layer",
+    ),
+    (
+        "name = \"a\"\nlayer = -1\nasn = 0\n",
+        "value device[0].layer",
+    ),
+    ("name = \"a\"\nlayer = 255\nid = 1\n", "key device[0].asn"),
+    (
+        "name = \"a\"\nlayer = 1\nasn = \"1\"\nid = 1\n",
+        "shape device[0].asn",
+    ),
+    (
+        "name = \"a\"\nlayer = 1\nasn = 4294967296\nid = 1\n",
+        "value device[0].asn",
+    ),
+    (
+        "name = \"a\"\nlayer = 1\nasn = 1\nown = 1\n",
+        "key device[0].id",
+    ),
+    (
+        "name = \"a\"\nlayer = 1\nasn = 1\nid = 1\nown = 1\n",
+        "shape device[0].id",
+    ),
+    (
+        "name = \"a\"\nlayer = 1\nasn = 4294967295\nid = \"1.2.3.4\"\nown = 1\npeer = 1\n",
+        "shape device[0].own",
+    ),
     ("name = \"a\"\nlayer = 256\n", "value device[0].layer"),
     ("name = \"a\"\nlayer = 1\nasn = 0\n", "value device[0].asn"),
     (
@@ -155,6 +198,44 @@ const DEVICES: &[(&str, &str)] = &[
     ),
 ];
 
+const ONE_LINK: &str = "version = 1\nemulate = []\n[[link]]\n";
+
+// Texts of a link and what follows it.
+const LINKS: &[(&str, &str)] = &[
+    ("a = \"t1\"\nb = \"l1\"\n", "emulate\nlink t1 l1 up true\n"),
+    (
+        "up = true\nb = \"l1\"\na = \"t1\"\n",
+        "emulate\nlink t1 l1 up true\n",
+    ),
+    (
+        "a = \"t1\"\nb = \"l1\"\nup = false\n[[link]]\na = \"l1\"\nb = \"t2\"\n",
+        "emulate\nlink t1 l1 up false\nlink l1 t2 up true\n",
+    ),
+    ("", "key link[0].a"),
+    ("a = 1\nb = 1\n", "shape link[0].a"),
+    ("a = \"\"\nb = 1\n", "value link[0].a"),
+    ("a = \"t1\"\nup = 1\n", "key link[0].b"),
+    ("a = \"t1\"\nb = 1\nup = 1\n", "shape link[0].b"),
+    ("a = \"t1\"\nb = \"a b\"\nup = 1\n", "value link[0].b"),
+    (
+        "a = \"t1\"\nb = \"l1\"\nup = 1\nx = 1\n",
+        "shape link[0].up",
+    ),
+    (
+        "a = \"t1\"\nb = \"l1\"\nup = \"false\"\n",
+        "shape link[0].up",
+    ),
+    (
+        "a = \"t1\"\nb = \"l1\"\nup = true\nc = \"t2\"\n",
+        "key link[0].c",
+    ),
+    ("a = \"t1\"\nb = \"l1\"\nx = 1\n[[link]]\n", "key link[0].x"),
+    (
+        "a = \"t1\"\nb = \"l1\"\n[[link]]\na = \"t1\"\nb = \"l1\"\nup = []\n[[record]]\n",
+        "shape link[1].up",
+    ),
+];
+
 const ONE_RECORD: &str =
     "version = 1\nemulate = []\n[[record]]\ndevice = \"a\"\nprefix = \"1.0.0.0/8\"\npath = \"-\"\n\
     origin = \"igp\"\n[[record]]\n";
@@ -163,6 +244,15 @@ const ONE_RECORD: &str =
 const RECORDS: &[(&str, &str)] = &[
     ("prefix = \"1.0.0.0/8\"\n", "key record[1].device"),
     ("device = \"a b\"\n", "value record[1].device"),
+    ("device = 1\n", "shape record[1].device"),
+    (
+        "device = \"a\"\nprefix = 1\npath = 7\n",
+        "shape record[1].prefix",
+    ),
+    (
+        "device = \"a\"\nprefix = \"1.0.0.0/8\"\npath = \"7\"\norigin = 1\nfrom = 1\n",
+        "shape record[1].origin",
+    ),
     ("device = \"a\"\n", "key record[1].prefix"),
     (
         "device = \"a\"\nprefix = \"1.0.0.1/8\"\npath = 7\n",

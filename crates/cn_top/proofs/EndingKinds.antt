@@ -41,7 +41,7 @@ right_writes usage_form held deed r = absurd r
 -- the status of a refusal is one of 1, 6, 7, 8 and 9
 pub refusal : (w : Wrong) → IsRefusal (status_of w)
 refusal (wrongs.Later later) = tt
-refusal (wrongs.Plan NoPlan) = tt
+refusal (wrongs.Plan (NoPlan why)) = tt
 refusal (wrongs.Plan (Net draft fault)) = tt
 refusal (wrongs.Plan (Refused net why)) = tt
 refusal (wrongs.Plan (Unsound net d p held wanted)) = tt
@@ -56,7 +56,7 @@ module _ (form : Form) (before after : Scene) (result : Status) where
         → IsWhole before after deed → Kind
     is_refused : (w : Wrong) → IsWrong form before.files.held w
         → HasRead (take (reads_until w) (reads_of form)) before.files after.files
-        → result ≡ status_of w → IsWhole before after (line_of w) → Kind
+        → result ≡ status_of w → IsWhole before after (line_of form w) → Kind
     is_misused : form ≡ usage_form → HasRead [] before.files after.files
         → result ≡ status.Usage → IsWhole before after usage_deed → Kind
     is_unread : (k : ℕ) → HasUnread form k before.files after.files

@@ -1,5 +1,5 @@
 -- What is to be done, from what the reads answered.
-use Rattle.std.proofs.Common.{◌≡◌, ◌<◌, ℕ, List, [], ◌∷◌, length, Option, Some, None, Result, IfOk, inl, inr, sym, ap, subst, ◌∙◌, take, arith}
+use Rattle.std.proofs.Common.{◌≡◌, ◌<◌, ◌-◌, ℕ, List, [], ◌∷◌, length, Option, Some, None, Result, IfOk, inl, inr, sym, ap, subst, ◌∙◌, take, arith}
 use Rattle.std.proofs.lemmas.Result.{IfOk-weaker}
 use Rattle.cn_outside.specs.Shelf.{Files, Held, IsTold, MayHold, Printed, RisesOnce, SameReads}
 use Rattle.cn_outside.specs.Scene.{Scene}
@@ -14,7 +14,7 @@ use Rattle.cn_top.specs.Meaning.{GoesOn, HoldsOpening, IsWrong, IsWrongPlan, pla
 use Rattle.cn_top.specs.Outcome.{HasUnread, Intends, Outcome, ReadsSoFar, carried, misused, right, unread, wrong}
 use Rattle.cn_top.specs.Reading.{HasNotRead, HasRead, IsBadPlan, IsBadScript, MayHaveRead}
 use Rattle.cn_top.specs.Serial.{IsRunOf, ReadsScript}
-use Rattle.cn_top.specs.Wrong.{line_of, reads_until, unread_deed}
+use Rattle.cn_top.specs.Wrong.{reads_until, refusal_of, unread_deed}
 use Rattle.cn_top.specs.declared.deed.Deed as code
 use Rattle.cn_top.specs.declared.serial.Run.{Run}
 use Rattle.cn_top.specs.declared.status.Status.{Status}
@@ -23,13 +23,15 @@ use Rattle.cn_top.proofs.Readings.{each_before, read_more, rises_after, rises_be
 
 -- ---- one answer
 
-pub intends_wrong : {E : Type 0} (form : Form) (before after : Files) (w : Wrong)
-    (r : Result code.Deed E) → IsWrong form before.held w
+pub intends_wrong : {E : Type 0} (form : Form) (before after : Files) (w : Wrong) (file : List ℕ)
+    (r : Result code.Deed E) → read_at form (reads_until w - 1) ≡ file → IsWrong form before.held w
     → HasRead (take (reads_until w) (reads_of form)) before after
-    → IfOk r (λ d. deed_view d ≡ line_of w) → IfOk r (λ d. Intends form before after (deed_view d))
-intends_wrong form before after w r is read h =
-    IfOk-weaker r (λ d. deed_view d ≡ line_of w) (λ d. Intends form before after (deed_view d))
-    (λ d e. wrong w is e read) h
+    → IfOk r (λ d. deed_view d ≡ refusal_of file w)
+    → IfOk r (λ d. Intends form before after (deed_view d))
+intends_wrong form before after w file r last is read h =
+    IfOk-weaker r (λ d. deed_view d ≡ refusal_of file w)
+    (λ d. Intends form before after (deed_view d))
+    (λ d e. wrong w is (e ∙ ap (λ (name : List ℕ). refusal_of name w) (sym last)) read) h
 
 pub intends_unread : {E : Type 0} (form : Form) (before after : Files) (k : ℕ)
     (r : Result code.Deed E) → HasUnread form k before after
@@ -64,7 +66,13 @@ bad_plan held w (bytes, may, (fault, is, e)) =
 pub known_first : (held : Held) (w : Wrong) → IsWrongPlan held w → reads_until w ≡ 1
 known_first held w (fault, has, e) = ap reads_until e
 
--- so the first file alone is read for it
+-- so the first file is the last that is read
+pub last_first : (form : Form) (file : List ℕ) (held : Held) (w : Wrong) → read_at form 0 ≡ file
+    → IsWrongPlan held w → read_at form (reads_until w - 1) ≡ file
+last_first form file held w first is =
+    ap (λ (n : ℕ). read_at form (n - 1)) (known_first held w is) ∙ first
+
+-- and it alone is read for it
 pub read_first : (form : Form) (file : List ℕ) (before after : Files) (w : Wrong)
     → take 1 (reads_of form) ≡ file ∷ [] → IsWrongPlan (before.held file) w
     → HasRead (file ∷ []) before after
@@ -123,6 +131,12 @@ module _ (file script trace : List ℕ) (before mid after : Files)
       → IsWrong run_form before.held w
   bad_script w (bytes, may, (none, e)) =
       inr (r, opened, record { bytes = bytes; holding = holding bytes may; none = none }, e)
+
+  pub last_second : (w : Wrong)
+      → (bytes : List ℕ) × MayHold (mid.held script) bytes × IsBadScript bytes w
+      → read_at run_form (reads_until w - 1) ≡ script
+  last_second w (bytes, may, (none, e)) =
+      ap (λ (n : ℕ). read_at run_form (n - 1)) (ap reads_until e)
 
   pub read_second : (w : Wrong)
       → (bytes : List ℕ) × MayHold (mid.held script) bytes × IsBadScript bytes w

@@ -13,7 +13,7 @@ use Rattle.cn_top.specs.Ending.{IsWhole}
 use Rattle.cn_top.specs.Form.{Form, plan_form, serial_form, later_form, usage_form, read_at}
 use Rattle.cn_top.specs.Meaning.{HoldsFault, HoldsNoScript, HoldsOpening, IsRight, IsWrong}
 use Rattle.cn_top.specs.Outcome.{IsCalm, IsRefusal, IsRefused, IsUnlessMemory, Outcome, Tells}
-use Rattle.cn_top.specs.Statuses.{HoldsUnsafePlan, IsBoundaryRefused, IsNoEmulation, IsNotBuilt, IsPlanPut, IsScriptRun, OpensPlan, no_command, no_plan, no_script, plan_held}
+use Rattle.cn_top.specs.Statuses.{HoldsUnsafePlan, IsBadText, IsBoundaryRefused, IsNoEmulation, IsNotBuilt, IsPlanPut, IsScriptRun, OpensPlan, no_command, no_script, plan_held}
 use Rattle.cn_top.specs.Wrong.{line_of, opening_status, status_of}
 use Rattle.cn_top.specs.declared.form.Later.{Later}
 use Rattle.cn_top.specs.declared.status.Status.{Status}
@@ -27,55 +27,65 @@ use Rattle.cn_top.proofs.Outcomes.{calm_unput, calm_unread, done_where, refused_
 -- ---- the statuses of a plan's faults
 
 boundary_status : (f : OpenFault) → opening_status f ≡ status.Refused → IsBoundaryFault f
-boundary_status NoPlan e = absurd cc
+boundary_status (NoPlan why) e = absurd cc
 boundary_status (Net draft fault) e = absurd cc
 boundary_status (Refused net refusal) e = tt
 boundary_status (Unsound net d p held wanted) e = tt
 
 refused_status : (f : OpenFault) → IsBoundaryFault f → opening_status f ≡ status.Refused
-refused_status NoPlan b = absurd b
+refused_status (NoPlan why) b = absurd b
 refused_status (Net draft fault) b = absurd b
 refused_status (Refused net refusal) b = refl
 refused_status (Unsound net d p held wanted) b = refl
+
+-- what is wrong with a plan is no form that isn't built
+plan_built : (f : OpenFault) → opening_status f ≡ status.Unbuilt → ⊥
+plan_built (NoPlan why) e = cc
+plan_built (Net draft fault) e = cc
+plan_built (Refused net refusal) e = cc
+plan_built (Unsound net d p held wanted) e = cc
 
 module _ (form : Form) (before after : Scene) where
   -- ---- 1
 
   boundary_line : (f : OpenFault) (w : Wrong) → HoldsFault (plan_held form before) f
-      → w ≡ wrongs.Plan f → status_of w ≡ status.Refused → IsWhole before after (line_of w)
+      → w ≡ wrongs.Plan f → status_of w ≡ status.Refused → IsWhole before after (line_of form w)
       → IsBoundaryRefused form before after
   boundary_line f w has e s whole = record {
     fault = f;
     boundary = boundary_status f (sym (ap status_of e) ∙ s);
     faulty = has;
-    whole = subst (λ (x : Wrong). IsWhole before after (line_of x)) e whole;
+    whole = subst (λ (x : Wrong). IsWhole before after (line_of form x)) e whole;
   }
 
   -- ---- 7
 
   net_line : (f : OpenFault) (w : Wrong) → HoldsFault (plan_held form before) f
-      → w ≡ wrongs.Plan f → opening_status f ≡ status.BadNet → IsWhole before after (line_of w)
+      → w ≡ wrongs.Plan f → opening_status f ≡ status.BadNet → IsWhole before after (line_of form w)
       → IsNoEmulation form before after
-  net_line NoPlan w has e s whole = absurd cc
+  net_line (NoPlan why) w has e s whole = absurd cc
   net_line (Net draft fault) w has e s whole = record {
     draft = draft;
     fault = fault;
     faulty = has;
-    whole = subst (λ (x : Wrong). IsWhole before after (line_of x)) e whole;
+    whole = subst (λ (x : Wrong). IsWhole before after (line_of form x)) e whole;
   }
   net_line (Refused net refusal) w has e s whole = absurd cc
   net_line (Unsound net d p held wanted) w has e s whole = absurd cc
 
-  -- ---- 9
+  -- ---- 6
 
-  plan_line : (f : OpenFault) (w : Wrong) → HoldsFault (plan_held form before) f
-      → w ≡ wrongs.Plan f → opening_status f ≡ status.Unbuilt → IsWhole before after (line_of w)
-      → IsNotBuilt form before after
-  plan_line NoPlan w has e s whole =
-      no_plan has (subst (λ (x : Wrong). IsWhole before after (line_of x)) e whole)
-  plan_line (Net draft fault) w has e s whole = absurd cc
-  plan_line (Refused net refusal) w has e s whole = absurd cc
-  plan_line (Unsound net d p held wanted) w has e s whole = absurd cc
+  text_line : (f : OpenFault) (w : Wrong) → HoldsFault (plan_held form before) f
+      → w ≡ wrongs.Plan f → opening_status f ≡ status.BadText
+      → IsWhole before after (line_of form w) → IsBadText form before after
+  text_line (NoPlan why) w has e s whole = record {
+    why = why;
+    faulty = has;
+    whole = subst (λ (x : Wrong). IsWhole before after (line_of form x)) e whole;
+  }
+  text_line (Net draft fault) w has e s whole = absurd cc
+  text_line (Refused net refusal) w has e s whole = absurd cc
+  text_line (Unsound net d p held wanted) w has e s whole = absurd cc
 
 -- ---- an arm for each command
 
@@ -151,9 +161,9 @@ unsafe_wrong form before w opens told unsafe (of_command later i e) =
 -- ---- the lines of refusals
 
 module _ (form : Form) (before after : Scene) (w : Wrong)
-    (whole : IsWhole before after (line_of w)) where
-  lined : (v : Wrong) → w ≡ v → IsWhole before after (line_of v)
-  lined v e = subst (λ (x : Wrong). IsWhole before after (line_of x)) e whole
+    (whole : IsWhole before after (line_of form w)) where
+  lined : (v : Wrong) → w ≡ v → IsWhole before after (line_of form v)
+  lined v e = subst (λ (x : Wrong). IsWhole before after (line_of form x)) e whole
 
   boundary_of : IsWrongOf form before w → status_of w ≡ status.Refused
       → IsBoundaryRefused form before after
@@ -162,6 +172,14 @@ module _ (form : Form) (before after : Scene) (w : Wrong)
       let is : status.Unbuilt ≡ status.Refused = sym (ap status_of e) ∙ s in absurd cc
   boundary_of (of_command later i e) s =
       let is : status.Unbuilt ≡ status.Refused = sym (ap status_of e) ∙ s in absurd cc
+
+  text_of : IsWrongOf form before w → status_of w ≡ status.BadText → IsBadText form before after
+  text_of (of_plan f has e) s =
+      text_line form before after f w has e (sym (ap status_of e) ∙ s) whole
+  text_of (of_script r o n e) s =
+      let is : status.Unbuilt ≡ status.BadText = sym (ap status_of e) ∙ s in absurd cc
+  text_of (of_command later i e) s =
+      let is : status.Unbuilt ≡ status.BadText = sym (ap status_of e) ∙ s in absurd cc
 
   net_of : IsWrongOf form before w → status_of w ≡ status.BadNet → IsNoEmulation form before after
   net_of (of_plan f has e) s =
@@ -174,7 +192,7 @@ module _ (form : Form) (before after : Scene) (w : Wrong)
   not_built_of : IsWrongOf form before w → status_of w ≡ status.Unbuilt
       → IsNotBuilt form before after
   not_built_of (of_plan f has e) s =
-      plan_line form before after f w has e (sym (ap status_of e) ∙ s) whole
+      absurd (plan_built f (sym (ap status_of e) ∙ s))
   not_built_of (of_script r o n e) s = no_script n (lined wrongs.NoScript e)
   not_built_of (of_command later i e) s = no_command later i (lined (wrongs.Later later) e)
 
@@ -187,7 +205,7 @@ module _ (form : Form) (before after : Scene) (result : Status)
 
   refused_with : (expected : Status) → result ≡ expected → IsRefused form before after result
       → (w : Wrong) × IsWrong form before.files.held w × (status_of w ≡ expected)
-      × IsWhole before after (line_of w)
+      × IsWhole before after (line_of form w)
   refused_with expected is r = (r.why, r.wrong, sym r.status ∙ is, r.whole)
 
   pub boundary_only : result ≡ status.Refused → IsBoundaryRefused form before after
@@ -196,6 +214,13 @@ module _ (form : Form) (before after : Scene) (result : Status)
       refused_with status.Refused is
       (refused_where form before after result kind (subst IsRefusal (sym is) tt)) in
       boundary_of form before after r.0 r.3 (wrong_of form before r.0 r.1) r.2
+
+  pub text_only : result ≡ status.BadText → IsBadText form before after
+  text_only is =
+      let r =
+      refused_with status.BadText is
+      (refused_where form before after result kind (subst IsRefusal (sym is) tt)) in
+      text_of form before after r.0 r.3 (wrong_of form before r.0 r.1) r.2
 
   pub net_only : result ≡ status.BadNet → IsNoEmulation form before after
   net_only is =

@@ -5,6 +5,7 @@ pub mod Deed
 pub mod Ending
 pub mod Reading
 pub mod FaultTexts
+pub mod TextFaults
 pub mod Texts
 pub mod Serial
 pub mod Wrong

@@ -26,7 +26,7 @@ pub record HasUnread (form : Form) (k : ℕ) (before after : Files) : Type 0 whe
 pub data Intends (form : Form) (before after : Files) (deed : Deed) : Type 0 where
   right : IsRight form before.held deed → HasRead (reads_of form) before after
       → Intends form before after deed
-  wrong : (w : Wrong) → IsWrong form before.held w → deed ≡ line_of w
+  wrong : (w : Wrong) → IsWrong form before.held w → deed ≡ line_of form w
       → HasRead (take (reads_until w) (reads_of form)) before after
       → Intends form before after deed
   misused : form ≡ usage_form → deed ≡ usage_deed → HasRead [] before after
@@ -92,7 +92,7 @@ pub record IsRefused (form : Form) (before after : Scene) (result : Status) : Ty
   pub wrong : IsWrong form before.files.held why
   pub status : result ≡ status_of why
   pub reads : HasRead (take (reads_until why) (reads_of form)) before.files after.files
-  pub whole : IsWhole before after (line_of why)
+  pub whole : IsWhole before after (line_of form why)
 
 -- 2: the words are no listed form, and the line of usage is put
 pub record IsMisused (form : Form) (before after : Scene) : Type 0 where

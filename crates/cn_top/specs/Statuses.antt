@@ -7,6 +7,7 @@ use Rattle.cn_open.specs.Opens.{IsUnsafePlan}
 use Rattle.cn_open.specs.declared.fault.OpenFault.{OpenFault}
 use Rattle.cn_open.specs.declared.fault.OpenFault.TheVariants.{Net, NoPlan}
 use Rattle.cn_open.specs.declared.fault.PlanFault.{PlanFault}
+use Rattle.cn_open.specs.declared.fault.TextFault.{TextFault}
 use Rattle.cn_outside.specs.Scene.{Scene}
 use Rattle.cn_outside.specs.Shelf.{Held, MayHold}
 use Rattle.cn_record.specs.Recorded.{RecordedOpening}
@@ -66,7 +67,15 @@ pub record IsBoundaryRefused (form : Form) (before after : Scene) : Type 0 where
   pub fault : OpenFault
   pub boundary : IsBoundaryFault fault
   pub faulty : HoldsFault (plan_held form before) fault
-  pub whole : IsWhole before after (line_of (wrongs.Plan fault))
+  pub whole : IsWhole before after (line_of form (wrongs.Plan fault))
+
+-- ---- 6
+
+-- no plan is read from the file, and the first reason is put, with its place
+pub record IsBadText (form : Form) (before after : Scene) : Type 0 where
+  pub why : TextFault
+  pub faulty : HoldsFault (plan_held form before) (NoPlan why)
+  pub whole : IsWhole before after (line_of form (wrongs.Plan (NoPlan why)))
 
 -- ---- 7
 
@@ -75,15 +84,13 @@ pub record IsNoEmulation (form : Form) (before after : Scene) : Type 0 where
   pub draft : Draft
   pub fault : PlanFault
   pub faulty : HoldsFault (plan_held form before) (Net draft fault)
-  pub whole : IsWhole before after (line_of (wrongs.Plan (Net draft fault)))
+  pub whole : IsWhole before after (line_of form (wrongs.Plan (Net draft fault)))
 
 -- ---- 9
 
--- a command, or a form of plans or of scripts, isn't built yet, and that is put
+-- a command, or a form of scripts, isn't built yet, and that is put
 pub data IsNotBuilt (form : Form) (before after : Scene) : Type 0 where
   no_command : (later : Later) → form ≡ later_form later
-      → IsWhole before after (line_of (wrongs.Later later)) → IsNotBuilt form before after
-  no_plan : HoldsFault (plan_held form before) NoPlan
-      → IsWhole before after (line_of (wrongs.Plan NoPlan)) → IsNotBuilt form before after
+      → IsWhole before after (line_of form (wrongs.Later later)) → IsNotBuilt form before after
   no_script : HoldsNoScript (before.files.held (read_at form 1))
-      → IsWhole before after (line_of wrongs.NoScript) → IsNotBuilt form before after
+      → IsWhole before after (line_of form wrongs.NoScript) → IsNotBuilt form before after

@@ -28,7 +28,7 @@ fn plan_means<'a, S: Shelf>(
 {
     match read_plan(alloc, shelf, file)? {
         FileRead::Good(recorded) => Deed::plan(alloc, recorded.certified()),
-        FileRead::Bad(wrong) => Deed::wrong(alloc, &wrong),
+        FileRead::Bad(wrong) => Deed::wrong(alloc, file, &wrong),
         FileRead::Unread => Deed::unread(alloc, file),
     }
 }
@@ -49,7 +49,7 @@ fn serial_means<'a, S: Shelf>(
 {
     let recorded = match read_plan(alloc, shelf, file)? {
         FileRead::Good(recorded) => recorded,
-        FileRead::Bad(wrong) => return Deed::wrong(alloc, &wrong),
+        FileRead::Bad(wrong) => return Deed::wrong(alloc, file, &wrong),
         FileRead::Unread => return Deed::unread(alloc, file),
     };
     match script_under(alloc, shelf, script)? {
@@ -57,7 +57,7 @@ fn serial_means<'a, S: Shelf>(
             let run = run_script(alloc, recorded, &commands)?;
             Ok(Deed::run(trace, run))
         }
-        FileRead::Bad(wrong) => Deed::wrong(alloc, &wrong),
+        FileRead::Bad(wrong) => Deed::wrong(alloc, script, &wrong),
         FileRead::Unread => Deed::unread(alloc, script),
     }
 }
@@ -75,7 +75,7 @@ pub fn means<'a, S: Shelf>(
 {
     match form {
         Form::Usage => Deed::usage(alloc),
-        Form::Later(later) => Deed::wrong(alloc, &Wrong::Later(later)),
+        Form::Later(later) => Deed::wrong(alloc, "", &Wrong::Later(later)),
         Form::Plan(file) => plan_means(alloc, shelf, file),
         Form::Serial {
             file,

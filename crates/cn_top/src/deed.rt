@@ -6,7 +6,7 @@ ghost use Rattle.cn_outside.specs.Shelf.{SameReads};
 ghost use Rattle.cn_top.specs.Deed.{deed_view, write_view};
 ghost use Rattle.cn_top.specs.Ending.{Ends, PutsTexts, WritesOne};
 ghost use Rattle.cn_top.specs.Meaning.{plan_deed, run_deed};
-ghost use Rattle.cn_top.specs.Wrong.{line, line_of, unread_deed, usage_deed};
+ghost use Rattle.cn_top.specs.Wrong.{line, refusal_of, unread_deed, usage_deed};
 
 use crate::serial::Run;
 use crate::status::Status;
@@ -63,11 +63,11 @@ impl<'a> Deed<'a> {
         Deed::line(alloc, Status::ReadFault, text)
     }
 
-    /// This is wrong.
-    pub fn wrong(alloc: Global, wrong: &Wrong) -> Result<Deed<'a>, AllocError>
-        ensures { IfOk result (λ deed. deed_view deed ≡ line_of wrong.now) }
+    /// This is wrong with the file of this name.
+    pub fn wrong(alloc: Global, file: &str, wrong: &Wrong) -> Result<Deed<'a>, AllocError>
+        ensures { IfOk result (λ deed. deed_view deed ≡ refusal_of file.now wrong.now) }
     {
-        let text = wrong.text(alloc)?;
+        let text = wrong.text(alloc, file)?;
         Deed::line(alloc, wrong.status(), text)
     }
 

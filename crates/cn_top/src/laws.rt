@@ -1,6 +1,6 @@
 //! Laws of what is meant. Each function does nothing; its contract is the law. The laws of each
-//! status stand in a file of their own: `status_done`, `status_refused`, `status_bad_net` and
-//! `status_unbuilt`.
+//! status stand in a file of their own: `status_done`, `status_refused`, `status_bad_text`,
+//! `status_bad_net` and `status_unbuilt`.
 
 ghost use Rattle.std.specs.Prelude.{ℕ, List};
 ghost use Rattle.cn_outside.specs.Shelf.{Held};

@@ -1,14 +1,18 @@
 //! The files that a command reads.
 
-ghost use Rattle.std.specs.Prelude.{IfOk, OnErr};
+ghost use Rattle.std.specs.Prelude.{◌≡◌, IfOk, OnErr};
+ghost use Rattle.cn_open.specs.Emulation.{plan_limit};
 ghost use Rattle.cn_open.specs.Opens.{Opens};
+ghost use Rattle.cn_open.specs.declared.fault.OpenFault.TheVariants.{NoPlan};
+ghost use Rattle.cn_open.specs.declared.fault.TextFault.TheVariants.{TooLong};
 ghost use Rattle.cn_top.specs.Ending.{KeepsNames};
 ghost use Rattle.cn_top.specs.Reading.{IsBadPlan, IsBadScript, MayHaveRead, ReadsFile};
 ghost use Rattle.cn_top.specs.Serial.{ReadsScript};
+ghost use Rattle.cn_top.specs.declared.wrong.Wrong.TheVariants.{Plan};
 
 use crate::wrong::Wrong;
 use cn_change::Script;
-use cn_open::{OpenAnswer, OpenFault, PLAN_LIMIT, open_plan};
+use cn_open::{OpenAnswer, OpenFault, PLAN_LIMIT, TextFault, open_plan};
 use cn_outside::{ReadAnswer, Shelf};
 use cn_readscript::read_script;
 use cn_record::Recorded;
@@ -25,6 +29,15 @@ pub enum FileRead<T> {
     Good(T),
     Bad(Wrong),
     Unread,
+}
+
+/// The text of a plan is too long.
+fn too_long() -> Wrong
+    ensures { result ≡ Plan (NoPlan (TooLong plan_limit)) }
+{
+    Wrong::Plan(OpenFault::NoPlan(TextFault::TooLong {
+        limit: PLAN_LIMIT as u64,
+    }))
 }
 
 /// Reads the plan under a name, and opens it.
@@ -45,7 +58,7 @@ pub fn read_plan<S: Shelf>(
             Err(OpenAnswer::Fault(fault)) => Ok(FileRead::Bad(Wrong::Plan(fault))),
             Err(OpenAnswer::Memory) => Err(AllocError),
         },
-        Err(ReadAnswer::TooLong { .. }) => Ok(FileRead::Bad(Wrong::Plan(OpenFault::NoPlan))),
+        Err(ReadAnswer::TooLong { .. }) => Ok(FileRead::Bad(too_long())),
         Err(ReadAnswer::Failed) => Ok(FileRead::Unread),
         Err(ReadAnswer::Memory) => Err(AllocError),
     }

@@ -33,7 +33,8 @@ fn run<S: Shelf, O: Out>(alloc: Global, words: &[String], shelf: &mut S, out: &m
 /// `plan FILE` reads a plan: a network, the devices to emulate or those from which they grow
 /// (`must`), and records of the others. It checks the certificate of the boundary between them, and
 /// the records against the one stable state of the others alone, and puts the plan or what is first
-/// wrong, by one put: what makes it no emulation (status 7), or its boundary unsafe (status 1).
+/// wrong, by one put: why no plan is read from the file (status 6), what makes it no emulation
+/// (status 7), or its boundary unsafe (status 1).
 ///
 /// `serial FILE SCRIPT TRACE` reads such a plan and a script, and runs the script in the serial
 /// order on an emulation of the plan's emulated devices, with a static speaker in place of each

@@ -6,6 +6,7 @@ ghost use Rattle.cn_top.specs.Wrong.{opening_status, opening_text, status_of, te
 use crate::fault_texts::bad_net_line;
 use crate::form::Later;
 use crate::status::Status;
+use crate::text_faults::bad_text_line;
 use crate::texts::{refused_line, unbuilt_line, unsound_line};
 use cn_open::OpenFault;
 use std::alloc::{AllocError, Global};
@@ -26,19 +27,19 @@ fn opening_status(fault: &OpenFault) -> Status
     ensures { result ≡ opening_status fault.now }
 {
     match fault {
-        OpenFault::NoPlan => Status::Unbuilt,
+        OpenFault::NoPlan(_) => Status::BadText,
         OpenFault::Net { .. } => Status::BadNet,
         OpenFault::Refused { .. } => Status::Refused,
         OpenFault::Unsound { .. } => Status::Refused,
     }
 }
 
-/// The line of a plan that opens no emulation.
-fn opening_text(alloc: Global, fault: &OpenFault) -> Result<Vec<u8>, AllocError>
-    ensures { IfOk result (λ text. text.items ≡ opening_text fault.now) }
+/// The line of a plan, in the file of this name, that opens no emulation.
+fn opening_text(alloc: Global, file: &str, fault: &OpenFault) -> Result<Vec<u8>, AllocError>
+    ensures { IfOk result (λ text. text.items ≡ opening_text file.now fault.now) }
 {
     match fault {
-        OpenFault::NoPlan => unbuilt_line(alloc, "plan text"),
+        OpenFault::NoPlan(why) => bad_text_line(alloc, file, why),
         OpenFault::Net { draft, fault } => bad_net_line(alloc, draft, fault),
         OpenFault::Refused { net, refusal } => refused_line(alloc, net, refusal),
         OpenFault::Unsound {
@@ -63,13 +64,13 @@ impl Wrong {
         }
     }
 
-    /// The line of the refusal.
-    pub fn text(&self, alloc: Global) -> Result<Vec<u8>, AllocError>
-        ensures { IfOk result (λ text. text.items ≡ text_of self.now) }
+    /// The line of the refusal, for what is wrong with the file of this name.
+    pub fn text(&self, alloc: Global, file: &str) -> Result<Vec<u8>, AllocError>
+        ensures { IfOk result (λ text. text.items ≡ text_of file.now self.now) }
     {
         match self {
             Wrong::Later(later) => unbuilt_line(alloc, later.word()),
-            Wrong::Plan(fault) => opening_text(alloc, fault),
+            Wrong::Plan(fault) => opening_text(alloc, file, fault),
             Wrong::NoScript => unbuilt_line(alloc, "script text"),
         }
     }

@@ -1,4 +1,4 @@
-use Rattle.std.proofs.Common.{IfOk, refl, subst, sym}
+use Rattle.std.proofs.Common.{[], IfOk, refl, subst, sym}
 use Rattle.cn_top.specs.Deed.{deed_view}
 use Rattle.cn_top.specs.Form.{later_form}
 use Rattle.cn_top.specs.FormView.{form_view}
@@ -16,5 +16,5 @@ returns-in-Later-clause-intends g c =
     (λ (f : code.Form). IfOk c.wrong.result
     (λ d. Intends (form_view f) before before (deed_view d)))
     (sym c.in-Later.is)
-    (intends_wrong (later_form c.in-Later.later) before before (wrongs.Later c.in-Later.later)
-    c.wrong.result refl (record { reads = λ n. refl; faults = λ n. refl }) c.wrong.ensures)
+    (intends_wrong (later_form c.in-Later.later) before before (wrongs.Later c.in-Later.later) []
+    c.wrong.result refl refl (record { reads = λ n. refl; faults = λ n. refl }) c.wrong.ensures)

@@ -1,6 +1,6 @@
 use Rattle.std.proofs.Common.{inl, refl, arith}
 use Rattle.cn_top.specs.Form.{plan_form}
-use Rattle.cn_top.proofs.Intents.{bad_plan, intends_unread, intends_wrong, read_first, so_far_first, unread_first}
+use Rattle.cn_top.proofs.Intents.{bad_plan, intends_unread, intends_wrong, last_first, read_first, so_far_first, unread_first}
 use Rattle.cn_top.proofs.commands.plan_means.Goals as goal
 
 pub returns-in-Bad-clause-intends : goal.returns-in-Bad-clause-intends
@@ -11,7 +11,8 @@ returns-in-Bad-clause-intends g c =
     let read = rw c.in-Bad.is at c.in_ok-recorded.ensures.read in
     let w = c.in-Bad.wrong in
     let bad = bad_plan (before.held c.args.file.now) w read.0 in
-    intends_wrong form before after w c.wrong.result bad
+    intends_wrong form before after w c.args.file.now c.wrong.result
+    (last_first form c.args.file.now (before.held c.args.file.now) w refl bad) bad
     (read_first form c.args.file.now before after w refl bad read.1) c.wrong.ensures
 
 pub returns-in-Unread-clause-intends : goal.returns-in-Unread-clause-intends

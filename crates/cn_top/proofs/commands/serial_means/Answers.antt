@@ -1,7 +1,7 @@
 use Rattle.std.proofs.Common.{inl, inr, refl, arith}
 use Rattle.cn_top.specs.Form.{serial_form}
 use Rattle.cn_top.specs.Deed.{deed_view}
-use Rattle.cn_top.proofs.Intents.{bad_plan, bad_script, both_read, intends_run, intends_unread, intends_wrong, read_first, read_second, so_far_first, so_far_second, unread_first, unread_second}
+use Rattle.cn_top.proofs.Intents.{bad_plan, bad_script, both_read, intends_run, intends_unread, intends_wrong, last_first, last_second, read_first, read_second, so_far_first, so_far_second, unread_first, unread_second}
 use Rattle.cn_top.proofs.commands.serial_means.Goals as goal
 
 -- ---- the plan
@@ -20,7 +20,8 @@ returns-in-Bad-clause-intends g c =
     let read = rw c.in-Bad.is at c.in_ok-recorded.ensures.read in
     let w = c.in-Bad.wrong in
     let bad = bad_plan (before.held c.args.file.now) w read.0 in
-    intends_wrong form before after w c.wrong.result (inl bad)
+    intends_wrong form before after w c.args.file.now c.wrong.result
+    (last_first form c.args.file.now (before.held c.args.file.now) w refl bad) (inl bad)
     (read_first form c.args.file.now before after w refl bad read.1) c.wrong.ensures
 
 pub returns-in-Bad-clause-reads : goal.returns-in-Bad-clause-reads
@@ -89,7 +90,9 @@ returns-in-Bad-2-clause-intends g c =
     let read = rw c.in-Bad-2.is at c.in_ok-commands.ensures.read in
     let w = c.in-Bad-2.wrong in
     intends_wrong (serial_form c.args.file.now c.args.script.now c.args.trace.now) before after w
-    c.wrong-in-Bad-2.result
+    c.args.script.now c.wrong-in-Bad-2.result
+    (last_second c.args.file.now c.args.script.now c.args.trace.now before mid after
+    c.in-Good.recorded c.read_plan.ensures.keeps plan.0 plan.1 w read.0)
     (bad_script c.args.file.now c.args.script.now c.args.trace.now before mid after
     c.in-Good.recorded c.read_plan.ensures.keeps plan.0 plan.1 w read.0)
     (read_second c.args.file.now c.args.script.now c.args.trace.now before mid after

@@ -1,5 +1,7 @@
-use Rattle.std.proofs.Common.{refl, rules, arith}
+use Rattle.std.proofs.Common.{refl, rules}
+use Rattle.cn_open.specs.Emulation.{plan_limit}
 use Rattle.cn_open.specs.declared.fault.OpenFault.TheVariants.{NoPlan}
+use Rattle.cn_open.specs.declared.fault.TextFault.TheVariants.{TooLong}
 use Rattle.cn_top.proofs.Readings.{longer_read, read_once}
 use Rattle.cn_top.proofs.read.read_plan.Goals as goal
 
@@ -13,5 +15,7 @@ returns-in-Err-TooLong-clause-read g c =
     let before = g.S.Shelf.files c.args.shelf.now in
     let after = g.S.Shelf.files c.read.new.self in
     let once =
-    read_once c.args.file.now before after (search rules) (search rules) in
-    ((long.0, long.1, (NoPlan, (λ text read. omega (arith, long.2, read.0)), refl)), once)
+    read_once c.args.file.now before after (search rules) (search rules) in (
+      (long.0, long.1, (NoPlan (TooLong plan_limit), (refl, long.2), c.too_long.ensures)),
+      once,
+    )
