@@ -101,10 +101,10 @@ table l1
 ";
 
 /// The core of a case, as it starts.
-pub fn started(alloc: Global, case: &str) -> Result<Core, Fail> {
+pub fn started(alloc: Global, case: &str) -> Result<Box<Core>, Fail> {
     let recorded = recorded(alloc, network_of(alloc, case)?, case)?;
     match Core::start(alloc, recorded) {
-        Ok(core) => Ok(core),
+        Ok(core) => Ok(Box::new(alloc, core)?),
         Err(_) => Err(Fail::new("no memory")),
     }
 }
@@ -121,7 +121,7 @@ fn run(alloc: Global, core: &mut Core, times: u32) -> Result<(), Fail> {
 }
 
 // The core of a case after its events.
-fn ran(alloc: Global, case: &str) -> Result<Core, Fail> {
+fn ran(alloc: Global, case: &str) -> Result<Box<Core>, Fail> {
     let times = count(case, "events")?;
     let mut core = started(alloc, case)?;
     run(alloc, &mut core, times)?;

@@ -111,39 +111,13 @@ fn scripts_are_answered(rt: HostRuntime) -> Result<(), Fail> {
     compare(rt.alloc(), ANSWERS, answers)
 }
 
-// Puts the text of an answer, which is given beside the core after it.
-fn put(
-    alloc: Global,
-    texts: &mut String,
-    after: &(Core, Answer),
-    k: u32,
-    command: &Command,
-) -> Result<(), Fail> {
-    let (core, answer) = after;
-    texts.push_str(&printed(alloc, core.net(), k, command, answer)?)?;
-    Ok(())
-}
-
-// The core after a command, whose answer is put.
-fn after(
-    alloc: Global,
-    texts: &mut String,
-    core: Core,
-    k: u32,
-    command: &Command,
-) -> Result<Core, Fail> {
-    let after = after_command(alloc, core, k, command)?;
-    put(alloc, texts, &after, k, command)?;
-    Ok(after.0)
-}
-
 // The texts of the answers, where each answer is dropped before the next command is run.
-fn told(alloc: Global, core: Core, script: &Script) -> Result<String, Fail> {
-    let mut core = core;
+fn told(alloc: Global, core: &mut Core, script: &Script) -> Result<String, Fail> {
     let mut k = 1u32;
     let mut texts = String::new(alloc);
     for command in script.items() {
-        core = after(alloc, &mut texts, core, k, command)?;
+        let answer = after_command(alloc, core, k, command)?;
+        texts.push_str(&printed(alloc, core.net(), k, command, &answer)?)?;
         k = k.wrapping_add(1);
     }
     Ok(texts)
@@ -151,7 +125,8 @@ fn told(alloc: Global, core: Core, script: &Script) -> Result<String, Fail> {
 
 fn told_of(alloc: Global, case: &str) -> Result<String, Fail> {
     let script = script(alloc, case)?;
-    told(alloc, started(alloc, case)?, &script)
+    let mut core = started(alloc, case)?;
+    told(alloc, &mut core, &script)
 }
 
 #[test]

@@ -1,6 +1,6 @@
 //! The run of a script.
 
-ghost use Rattle.std.specs.Prelude.{IfOk, OnOk};
+ghost use Rattle.std.specs.Prelude.{◌≡◌, [], IfOk, OnOk};
 ghost use Rattle.cn_core.specs.Play.{IsAnswer};
 ghost use Rattle.cn_serial.specs.Ran.{HasWorked, IsAfter, IsRan};
 
@@ -36,8 +36,10 @@ fn work(alloc: Global, core: &mut Core, count: u32) -> Result<(), AllocError>
     Ok(())
 }
 
-// One command, and the mark behind it.
-fn run_command(
+/// One command, whose number is `k`: the core goes to the mark behind it, to which its serial part
+/// leads, and the answer comes. So each answer can be used and dropped before the next command is
+/// run. The error is want of memory, after which the core is that of some run.
+pub fn after_command(
     alloc: Global,
     core: &mut Core,
     k: u32,
@@ -59,21 +61,19 @@ fn run_command(
     }
 }
 
-/// One command, whose number is `k`: the core at the mark behind it, which its serial part led to,
-/// and the answer. So each answer can be used and dropped before the next command is run. The error
-/// is want of memory, for which the core is dropped.
-pub fn after_command(
-    alloc: Global,
-    core: Core,
-    k: u32,
-    command: &Command,
-) -> Result<(Core, Answer), AllocError>
-    ensures after { IfOk result (λ next. IsAfter core k command.now next.0) }
-    ensures answer { IfOk result (λ next. IsAnswer next.0 command.now next.1) }
+// The commands of a script, one after another, on a core at its start.
+fn answered(alloc: Global, core: &mut Core, script: &Script) -> Result<Items<Answer>, AllocError>
+    requires { core.old.history ≡ [] }
+    ensures { IfOk result (λ answers. IsRan core.old.recorded script.now
+        (record { core = core.new; answers = answers })) }
 {
-    let mut core = core;
-    let answer = run_command(alloc, &mut core, k, command)?;
-    Ok((core, answer))
+    let mut answers = Vec::with_capacity(alloc, script.items().len())?;
+    let mut k = 1;
+    for command in script.items() {
+        answers.push(after_command(alloc, core, k, command)?)?;
+        k += 1;
+    }
+    Ok(Items::make(answers))
 }
 
 /// Runs a script in the serial order on the emulated devices of an opening, with speakers in place
@@ -83,17 +83,14 @@ pub fn after_command(
 pub fn run_serial(alloc: Global, recorded: Recorded, script: &Script) -> Result<Ran, AllocError>
     ensures { IfOk result (λ ran. IsRan recorded script.now ran) }
 {
-    let Ok(mut core) = Core::start(alloc, recorded) else {
+    let Ok(core) = Core::start(alloc, recorded) else {
         return Err(AllocError);
     };
-    let mut answers = Vec::with_capacity(alloc, script.items().len())?;
-    let mut k = 1;
-    for command in script.items() {
-        answers.push(run_command(alloc, &mut core, k, command)?)?;
-        k += 1;
-    }
+    // A core in a box is dropped by one call at each error below, and not field by field.
+    let mut core = Box::new(alloc, core)?;
+    let answers = answered(alloc, &mut core, script)?;
     Ok(Ran {
-        core,
-        answers: Items::make(answers),
+        core: Box::into_inner(core),
+        answers,
     })
 }

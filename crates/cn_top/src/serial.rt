@@ -1,6 +1,6 @@
 //! What comes of a script in the serial order.
 
-ghost use Rattle.std.specs.Prelude.{IfOk};
+ghost use Rattle.std.specs.Prelude.{◌≡◌, [], IfOk};
 ghost use Rattle.cn_top.specs.Serial.{IsRunOf};
 
 use cn_base::Items;
@@ -24,14 +24,23 @@ pub struct Run {
 pub fn run_script(alloc: Global, recorded: Recorded, script: &Script) -> Result<Run, AllocError>
     ensures { IfOk result (IsRunOf recorded script.now) }
 {
-    let Ok(mut core) = Core::start(alloc, recorded) else {
+    let Ok(core) = Core::start(alloc, recorded) else {
         return Err(AllocError);
     };
+    // A core in a box is dropped by one call, and not field by field.
+    let mut core = Box::new(alloc, core)?;
+    run_on(alloc, &mut core, script)
+}
+
+// The same, on a core at its start.
+fn run_on(alloc: Global, core: &mut Core, script: &Script) -> Result<Run, AllocError>
+    requires { core.old.history ≡ [] }
+    ensures { IfOk result (IsRunOf core.old.recorded script.now) }
+{
     let mut texts = Vec::with_capacity(alloc, script.items().len())?;
     let mut k = 1;
     for command in script.items() {
-        let (next, answer) = after_command(alloc, core, k, command)?;
-        core = next;
+        let answer = after_command(alloc, core, k, command)?;
         let text = print_answer(alloc, core.net(), k, command, &answer)?;
         texts.push(Items::make(text))?;
         k += 1;

@@ -1,62 +1,13 @@
-use Rattle.std.proofs.Common.{◌≡◌, ◌+◌, get_or, sym, ap, ◌∙◌, refl, arith, subst}
-use Rattle.std.proofs.lemmas.List.{get_or_default}
-use Rattle.cn_change.specs.declared.command.Command.TheVariants.{Pull}
-use Rattle.cn_core.specs.Log.{Log}
-use Rattle.cn_net.specs.Network.{Network}
+use Rattle.std.proofs.Common.{◌∙◌, ap, subst}
+use Rattle.std.specs.Prelude.{IfOk}
 use Rattle.cn_record.specs.Recorded.{RecordedOpening}
-use Rattle.cn_report.specs.Answers.{answer_text}
-use Rattle.cn_trace.specs.Trace.{trace_text}
+use Rattle.cn_core.specs.Log.{Log}
 use Rattle.cn_top.specs.Serial.{IsRunOf}
-use Rattle.cn_top.proofs.Told.{IsToldSoFar, told_done, told_more, told_none}
 use Rattle.cn_top.proofs.serial.run_script.Goals as goal
-
-pub loop-command-init : goal.loop-command-init
-loop-command-init c = (
-  subst (IsToldSoFar c.args.recorded c.items-command-items.result.now 0 c.in-Ok.core)
-      (sym c.in_ok-texts.ensures.items)
-      (told_none c.args.recorded c.items-command-items.result.now c.in-Ok.core c.in-Ok.ensures.ok),
-  refl,
-)
-
-pub loop-command-preserved : goal.loop-command-preserved
-loop-command-preserved c =
-    let r = c.args.recorded in
-    let commands = c.items-command-items.result.now in
-    let i = c.loop-command.command-index in
-    let command = get_or commands i Pull in
-    let so = c.loop-command.invariant.0 in
-    let next = c.in_ok-next.next in
-    let kept : next.recorded ≡ r =
-    ap (λ (l : Log). l.recorded) c.in_ok-next.ensures.after.grown ∙ so.run.recorded in
-    let net : c.net.result.now ≡ r.opening.net =
-    c.net.ensures.net ∙ c.net.ensures.kept.net
-    ∙ ap (λ (x : RecordedOpening). x.opening.net) kept in
-    let text =
-    c.make.ensures ∙ c.in_ok-text.ensures
-    ∙ ap (λ (n : Network). answer_text n c.loop-command.k command c.in_ok-next.answer) net in (
-      subst (IsToldSoFar r commands (c.loop-command.command-index + 1) next)
-          (sym c.in_ok-push.ensures.items)
-          (told_more r commands i c.loop-command.k c.loop-command.core next
-          c.loop-command.texts.items command c.in_ok-next.answer c.make.result
-          c.loop-command-test.true (get_or_default commands i Pull command c.loop-command-test.true)
-          c.loop-command.invariant.1 c.in_ok-next.ensures.after c.in_ok-next.ensures.answer text
-          so),
-      omega (arith, c.loop-command.invariant.1),
-    )
 
 pub returns : goal.returns
 returns c =
-    let r = c.args.recorded in
-    let commands = c.items-command-items.result.now in
-    let core = c.loop-command.core in
-    let so = c.loop-command.invariant.0 in
-    let net : c.net-2.result.now ≡ r.opening.net =
-    c.net-2.ensures.net ∙ c.net-2.ensures.kept.net
-    ∙ ap (λ (x : RecordedOpening). x.opening.net) so.run.recorded in
-    let traced =
-    c.make-2.ensures ∙ c.in_ok-trace.ensures
-    ∙ ap (trace_text c.net-2.result.now) c.history.ensures.same in
-    subst (λ s. IsRunOf r s (record { trace = c.make-2.result; texts = c.make-3.result }))
-    c.items-command-items.ensures.same
-    (told_done r commands c.loop-command.command-index core c.loop-command.texts.items
-    c.net-2.result.now _ c.loop-command-test.false so net traced c.make-3.ensures)
+    subst (λ (r : RecordedOpening). IfOk c.run_on.result (IsRunOf r c.args.script.now))
+    (ap (λ (l : Log). l.recorded)
+    (c.deref_mut.ensures.value ∙ c.in_ok-core.ensures.ok ∙ c.in-Ok.ensures.ok))
+    c.run_on.ensures
