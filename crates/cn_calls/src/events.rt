@@ -162,7 +162,8 @@ fn told(alloc: Global, core: &Core) -> Result<String, Fail> {
 }
 
 fn answer(alloc: Global, case: &str) -> Result<String, Fail> {
-    told(alloc, &ran(alloc, case)?)
+    let core = ran(alloc, case)?;
+    told(alloc, &core)
 }
 
 #[test]
