@@ -38,7 +38,8 @@ fn work(alloc: Global, core: &mut Core, count: u32) -> Result<(), AllocError>
 
 /// One command, whose number is `k`: the core goes to the mark behind it, to which its serial part
 /// leads, and the answer comes. So each answer can be used and dropped before the next command is
-/// run. The error is want of memory, after which the core is that of some run.
+/// run. The error is want of memory. The core may have gone a part of the way then, and nothing is
+/// said of how far, so its caller is to drop it.
 pub fn after_command(
     alloc: Global,
     core: &mut Core,
