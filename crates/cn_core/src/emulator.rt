@@ -43,6 +43,7 @@ impl Model for Core {
     ghost use Rattle.std.specs.Prelude.{◌≡◌};
     ghost use Rattle.cn_core.specs.Log.{IsState, Log};
     ghost use Rattle.cn_core.specs.LogCode.{log_code};
+    ghost use Rattle.cn_core.specs.Stored.{stands_for};
 
     ghost Value = { Log };
 
@@ -50,7 +51,7 @@ impl Model for Core {
 
     ghost view = { λ c. record { recorded = c.recorded.value; history = c.history.items } };
 
-    ghost invariant = { λ c. IsState c.recorded.value c.history.items c.engine
+    ghost invariant = { λ c. IsState c.recorded.value c.history.items (stands_for c.engine)
         × (c.emulated ≡ c.recorded.value.opening.emulated) };
 }
 

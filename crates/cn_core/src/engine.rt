@@ -4,13 +4,14 @@
 //! device, of those into a device, and of the one between two devices. It never changes, since no
 //! event changes which sessions there are.
 
-ghost use Rattle.std.specs.Prelude.{◌≡◌, ◌<◌, ◌&&◌, MatchOption, OnOk, OnErr, IsTrue, length, nat_lt, option_copied, slice_index_or};
+ghost use Rattle.std.specs.Prelude.{◌≡◌, ◌<◌, ◌&&◌, MatchOption, OnOk, OnErr, IsTrue, length, nat_lt, option_copied, option_map, slice_index_or};
 ghost use Rattle.std.specs.List.{find};
 ghost use Rattle.cn_net.specs.Network.{IsDevice};
 ghost use Rattle.cn_rib.specs.PrefixSet as set;
 ghost use Rattle.cn_core.specs.Machine.{after_event, can, decide, receive, send};
 ghost use Rattle.cn_core.specs.Owed.{owes};
 ghost use Rattle.cn_core.specs.State.{SessionState, is_session, rib, session};
+ghost use Rattle.cn_core.specs.Stored.{rib_under, session_under, stands_for};
 ghost use Rattle.cn_core.specs.Whole.{IsNowhere, IsPlaceOf};
 
 use crate::event::Event;
@@ -19,16 +20,19 @@ use crate::owed::{Owed, count, decide, send};
 use crate::session::{Rib, Session, receive};
 use cn_base::{DeviceId, Prefix};
 use cn_net::{Certified, SessionIndex};
+use cn_pool::Pool;
 use cn_rib::Tally;
 use std::alloc::{AllocError, Global};
 use std::marker::Model;
 
 /// The certified opening now, the sessions by `(from, to)` with an index of their places, and what
-/// each device holds, by its number. Beside these what each session owes, by its place, is kept,
-/// and how much there is to do.
+/// each device holds, by its number; their paths are held in a pool, the empty path first. Beside
+/// these what each session owes, by its place, is kept, and how much there is to do.
 #[derive(Drop)]
 pub struct Engine {
     pub certified: Certified,
+    /// The paths of all routes, each once.
+    pub pool: Pool,
     /// The sessions of the emulation (`session_ends`), at the places where they stand here.
     pub index: SessionIndex,
     pub sessions: Vec<Session>,
@@ -43,37 +47,42 @@ pub struct Engine {
 }
 
 impl Model for Engine {
-    ghost use Rattle.cn_core.specs.Codes.{state_code};
-    ghost use Rattle.cn_core.specs.OwedLists.{IsRight};
-    ghost use Rattle.cn_core.specs.State.{CoreState};
+    ghost use Rattle.cn_core.specs.StoredCode.{stored_code};
+    ghost use Rattle.cn_core.specs.Stored.{IsKeptRight, Stored};
 
-    ghost Value = { CoreState };
+    ghost Value = { Stored };
 
-    ghost coded = { state_code };
+    ghost coded = { stored_code };
 
     ghost view = { λ t. record {
       now = t.certified;
+      pool = t.pool;
       sessions = t.sessions.items;
       ribs = t.ribs.items;
     } };
 
     ghost invariant = { λ t.
-        IsRight (record { now = t.certified; sessions = t.sessions.items; ribs = t.ribs.items })
-        t.index t.owed.items t.in_mail t.in_lists t.in_ribs };
+        IsKeptRight (record {
+          now = t.certified;
+          pool = t.pool;
+          sessions = t.sessions.items;
+          ribs = t.ribs.items;
+        }) t.index t.owed.items t.in_mail t.in_lists t.in_ribs };
 }
 
 impl Engine {
     /// The place of a session, found among those of its sender.
     pub fn place(&self, from: DeviceId, to: DeviceId) -> Option<usize>
-        ensures { MatchOption result (IsNowhere from to self.now.sessions)
-            (λ i. IsPlaceOf from to self.now.sessions i) }
+        ensures { MatchOption result (IsNowhere from to (stands_for self.now).sessions)
+            (λ i. IsPlaceOf from to (stands_for self.now).sessions i) }
     {
         self.index.valid();
         self.index.place(from, to)
     }
 
     fn session(&self, from: DeviceId, to: DeviceId) -> Option<&Session>
-        ensures { option_copied result ≡ find (is_session from to) self.now.sessions }
+        ensures { option_map (session_under self.now.pool) (option_copied result)
+            ≡ find (is_session from to) (stands_for self.now).sessions }
     {
         match self.place(from, to) {
             Some(at) => Some(&self.sessions[at]),
@@ -84,7 +93,7 @@ impl Engine {
     /// What a device holds.
     pub fn rib(&self, device: DeviceId) -> &Rib
         requires { IsDevice self.now.now.net device }
-        ensures { result.now ≡ rib self.now device }
+        ensures { rib_under self.now.pool result.now ≡ rib (stands_for self.now) device }
     {
         &self.ribs[device.0 as usize]
     }
@@ -93,7 +102,8 @@ impl Engine {
     pub fn owes(&self, place: usize) -> bool
         requires { place < length self.now.sessions }
         ensures { (x : SessionState)
-            → result ≡ owes self.now (slice_index_or self.now.sessions place x) }
+            → result
+            ≡ owes (stands_for self.now) (slice_index_or (stands_for self.now).sessions place x) }
     {
         !self.owed[place].is_empty()
     }
@@ -102,7 +112,7 @@ impl Engine {
 
     #[tactic(auto, unfolding(crate::specs::State::session))]
     fn has_mail(&self, from: DeviceId, to: DeviceId) -> bool
-        ensures { result ≡ nat_lt 0 (length (session self.now from to).mail) }
+        ensures { result ≡ nat_lt 0 (length (session (stands_for self.now) from to).mail) }
     {
         match self.session(from, to) {
             Some(session) => !session.mail.is_empty(),
@@ -112,7 +122,7 @@ impl Engine {
 
     #[tactic(auto, unfolding(crate::specs::State::rib), using(crate::proofs::Held::rib_read))]
     fn is_dirty(&self, device: DeviceId, prefix: &Prefix) -> bool
-        ensures { result ≡ set.contains (rib self.now device).dirty prefix.now }
+        ensures { result ≡ set.contains (rib (stands_for self.now) device).dirty prefix.now }
     {
         match self.ribs.get(device.0 as usize) {
             Some(rib) => rib.dirty.contains(prefix),
@@ -121,7 +131,7 @@ impl Engine {
     }
 
     fn can_send(&self, from: DeviceId, to: DeviceId) -> bool
-        ensures { result ≡ can self.now (Event.Send from to) }
+        ensures { result ≡ can (stands_for self.now) (Event.Send from to) }
     {
         match self.place(from, to) {
             Some(at) => {
@@ -134,7 +144,7 @@ impl Engine {
 
     /// Whether an event is enabled.
     pub fn can(&self, event: &Event) -> bool
-        ensures { result ≡ can self.now event.now }
+        ensures { result ≡ can (stands_for self.now) event.now }
     {
         match event {
             Event::Receive { from, to } => self.has_mail(*from, *to),
@@ -147,15 +157,17 @@ impl Engine {
 
     fn receive(&mut self, alloc: Global, from: DeviceId, to: DeviceId) -> Result<(), AllocError>
         ensures ok { OnOk result
-            (self.new ≡ receive self.old from to (session self.old from to).mail) }
-        ensures err { OnErr result (self.new ≡ self.old) }
+            (stands_for self.new
+            ≡ receive (stands_for self.old) from to
+            (session (stands_for self.old) from to).mail) }
+        ensures err { OnErr result (stands_for self.new ≡ stands_for self.old) }
     {
         let Some(at) = self.place(from, to) else {
             return Ok(());
         };
         let session = &mut self.sessions[at];
         let rib = &mut self.ribs[to.0 as usize];
-        receive(alloc, session, rib)?;
+        receive(alloc, &mut self.pool, session, rib)?;
         let left = session.mail.len();
         self.in_mail.set(at as u32, left as u128);
         self.in_ribs.set(to.0, rib.dirty.len() as u128);
@@ -164,24 +176,29 @@ impl Engine {
 
     fn decide(&mut self, alloc: Global, device: DeviceId, prefix: &Prefix) -> Result<(), AllocError>
         requires { device.0 < length self.old.ribs }
-        ensures ok { OnOk result (self.new ≡ decide self.old device prefix.now) }
-        ensures err { OnErr result (self.new ≡ self.old) }
+        ensures ok { OnOk result
+            (stands_for self.new ≡ decide (stands_for self.old) device prefix.now) }
+        ensures err { OnErr result (stands_for self.new ≡ stands_for self.old) }
     {
-        let choice = self.decided(alloc, device, prefix)?;
+        let choice = self.decided(device, prefix);
         let (start, end) = self.places_from(device);
         let net = self.certified.net();
+        let pool = &self.pool;
         let rib = &mut self.ribs[device.0 as usize];
         let lists = &mut self.owed;
-        let done = decide(net, &self.sessions, lists, start, end, rib, prefix, choice);
+        let sessions = &self.sessions;
+        let done = decide(
+            alloc, net, pool, sessions, lists, start, end, rib, prefix, choice,
+        );
         count(&mut self.in_lists, &self.owed, start, end);
         self.in_ribs.set(device.0, rib.dirty.len() as u128);
         done
     }
 
     fn send(&mut self, alloc: Global, from: DeviceId, to: DeviceId) -> Result<(), AllocError>
-        requires { IsTrue (can self.old (Event.Send from to)) }
-        ensures ok { OnOk result (self.new ≡ send self.old from to) }
-        ensures err { OnErr result (self.new ≡ self.old) }
+        requires { IsTrue (can (stands_for self.old) (Event.Send from to)) }
+        ensures ok { OnOk result (stands_for self.new ≡ send (stands_for self.old) from to) }
+        ensures err { OnErr result (stands_for self.new ≡ stands_for self.old) }
     {
         let Some(at) = self.place(from, to) else {
             return Ok(());
@@ -189,8 +206,9 @@ impl Engine {
         let rib = &self.ribs[from.0 as usize];
         let session = &mut self.sessions[at];
         let lists = &mut self.owed[at];
-        let update = message(alloc, self.certified.net(), session, &rib.loc_rib, lists)?;
-        send(alloc, session, lists, &update)?;
+        let net = self.certified.net();
+        let update = message(alloc, net, &self.pool, session, &rib.loc_rib, lists)?;
+        send(alloc, &mut self.pool, session, lists, &update)?;
         self.in_mail.set(at as u32, session.mail.len() as u128);
         self.in_lists.set(at as u32, lists.len());
         Ok(())
@@ -198,9 +216,10 @@ impl Engine {
 
     /// An event that is enabled happens. All memory is taken before anything changes.
     pub fn apply(&mut self, alloc: Global, event: &Event) -> Result<(), AllocError>
-        requires { IsTrue (can self.old event.now) }
-        ensures ok { OnOk result (self.new ≡ after_event self.old event.now) }
-        ensures err { OnErr result (self.new ≡ self.old) }
+        requires { IsTrue (can (stands_for self.old) event.now) }
+        ensures ok { OnOk result
+            (stands_for self.new ≡ after_event (stands_for self.old) event.now) }
+        ensures err { OnErr result (stands_for self.new ≡ stands_for self.old) }
     {
         match event {
             Event::Receive { from, to } => self.receive(alloc, *from, *to),

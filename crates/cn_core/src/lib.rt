@@ -15,6 +15,7 @@
 #![tactic(auto)]
 
 mod answer;
+mod best;
 mod decision;
 mod emulator;
 mod engine;

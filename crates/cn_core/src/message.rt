@@ -4,17 +4,20 @@
 
 ghost use Rattle.std.specs.Prelude.{◌≡◌, ◌<◌, ◌-◌, true, IfOk, None, Some, filter, length, map, option_map};
 ghost use Rattle.std.specs.FinMap as fin;
-ghost use Rattle.cn_core.specs.Owed.{advertised, owed, rows};
-ghost use Rattle.cn_core.specs.OwedLists.{IsListed, attrs_with, shares};
+ghost use Rattle.cn_core.specs.Owed.{advertised, rows};
+ghost use Rattle.cn_core.specs.OwedLists.{IsListed, attrs_with, owed_over, shares};
+ghost use Rattle.cn_core.specs.Stored.{held_under, session_under};
 ghost use Rattle.cn_net.specs.Network.{router_of};
 ghost use Rattle.cn_pack.specs.Packing.{packed};
 ghost use Rattle.cn_wire.specs.Sizes.{longest_prefix_within};
 ghost use Rattle.cn_wire.specs.Writing.{fits};
 
+use crate::best::Best;
 use crate::owed::Owed;
 use crate::session::Session;
-use cn_base::{Choice, Items, Prefix, Route};
+use cn_base::{Items, Prefix, Route};
 use cn_net::Net;
+use cn_pool::Pool;
 use cn_rib::{PrefixMap, Row};
 use cn_wire::{Attrs, Update, attrs_size, prefix_size};
 use std::alloc::{AllocError, Global};
@@ -43,22 +46,23 @@ fn fitting(alloc: Global, rows: &[Row<()>]) -> Result<Vec<Prefix>, AllocError>
 // Holds where what is offered for the prefix has this path and this ORIGIN.
 fn shares(
     net: &Net,
+    pool: &Pool,
     session: &Session,
-    best: &PrefixMap<Choice>,
+    best: &PrefixMap<Best>,
     attrs: &Attrs,
     prefix: &Prefix,
 ) -> bool
     ensures { result
-        ≡ shares net.now session.now.from session.now.to best.now attrs.now.path attrs.now.origin
-        prefix.now }
+        ≡ shares net.now session.now.from session.now.to (held_under pool.now best.now)
+        attrs.now.path attrs.now.origin prefix.now }
 {
     match best.get(prefix) {
-        Some(choice) => net.is_offer(
+        Some(best) => net.is_offer(
             session.from,
             session.to,
             prefix,
-            &choice.path,
-            choice.origin,
+            pool.path(best.path),
+            best.origin,
             &attrs.path,
             attrs.origin,
         ),
@@ -71,21 +75,23 @@ fn sharing(
     alloc: Global,
     room: usize,
     net: &Net,
+    pool: &Pool,
     session: &Session,
-    best: &PrefixMap<Choice>,
+    best: &PrefixMap<Best>,
     attrs: &Attrs,
     rows: &[Row<()>],
 ) -> Result<Vec<Prefix>, AllocError>
     ensures { IfOk result (λ v. v.items
         ≡ longest_prefix_within room
         (filter
-        (shares net.now session.now.from session.now.to best.now attrs.now.path attrs.now.origin)
+        (shares net.now session.now.from session.now.to (held_under pool.now best.now)
+        attrs.now.path attrs.now.origin)
         (map (λ r. r.prefix) rows.now))) }
 {
     let mut prefixes = Vec::new(alloc);
     let mut left = room;
     for row in rows {
-        if shares(net, session, best, attrs, &row.prefix) {
+        if shares(net, pool, session, best, attrs, &row.prefix) {
             let size = prefix_size(&row.prefix);
             if size > left {
                 return Ok(prefixes);
@@ -101,19 +107,22 @@ fn sharing(
 fn attributes(
     alloc: Global,
     net: &Net,
+    pool: &Pool,
     session: &Session,
-    best: &PrefixMap<Choice>,
+    best: &PrefixMap<Best>,
     prefix: &Prefix,
 ) -> Result<Option<Attrs>, AllocError>
     ensures { IfOk result (λ o. o
         ≡ option_map (attrs_with (router_of net.now session.now.from).0)
-        (advertised net.now session.now.from session.now.to best.now prefix.now)) }
+        (advertised net.now session.now.from session.now.to (held_under pool.now best.now)
+        prefix.now)) }
 {
-    let Some(choice) = best.get(prefix) else {
+    let Some(best) = best.get(prefix) else {
         return Ok(None);
     };
     let (from, to) = (session.from, session.to);
-    match net.offer_path(alloc, from, to, prefix, &choice.path, choice.origin)? {
+    let path = pool.path(best.path);
+    match net.offer_path(alloc, from, to, prefix, path, best.origin)? {
         Some(offer) => {
             let Route { path, origin, .. } = offer;
             let next_hop = net.router(from).0;
@@ -130,22 +139,24 @@ fn attributes(
 fn announcing(
     alloc: Global,
     net: &Net,
+    pool: &Pool,
     session: &Session,
-    best: &PrefixMap<Choice>,
+    best: &PrefixMap<Best>,
     lists: &Owed,
 ) -> Result<Update, AllocError>
     requires listed { IsListed
-        (owed net.now session.now.from session.now.to session.now.adj_rib_out best.now)
+        (owed_over net.now (held_under pool.now best.now) (session_under pool.now session.now))
         lists.now }
     requires none { fin.len lists.now.withdrawals ≡ 0 }
     ensures exact { IfOk result (λ u. u
         ≡ packed
-        (rows (owed net.now session.now.from session.now.to session.now.adj_rib_out best.now))
+        (rows
+        (owed_over net.now (held_under pool.now best.now) (session_under pool.now session.now)))
         (router_of net.now session.now.from).0) }
     ensures fits { IfOk result (λ u. fits u ≡ true) }
 {
     let attrs = match lists.announcements.first() {
-        Some(prefix) => attributes(alloc, net, session, best, &prefix)?,
+        Some(prefix) => attributes(alloc, net, pool, session, best, &prefix)?,
         None => None,
     };
     let withdrawn = Items::make(Vec::new(alloc));
@@ -158,7 +169,7 @@ fn announcing(
     };
     let room = ROOM - attrs_size(&attrs);
     let rows = lists.announcements.rows();
-    let announced = sharing(alloc, room, net, session, best, &attrs, rows)?;
+    let announced = sharing(alloc, room, net, pool, session, best, &attrs, rows)?;
     Ok(Update {
         withdrawn,
         attrs: Some(attrs),
@@ -171,21 +182,23 @@ fn announcing(
 pub fn message(
     alloc: Global,
     net: &Net,
+    pool: &Pool,
     session: &Session,
-    best: &PrefixMap<Choice>,
+    best: &PrefixMap<Best>,
     lists: &Owed,
 ) -> Result<Update, AllocError>
     requires { IsListed
-        (owed net.now session.now.from session.now.to session.now.adj_rib_out best.now)
+        (owed_over net.now (held_under pool.now best.now) (session_under pool.now session.now))
         lists.now }
     ensures exact { IfOk result (λ u. u
         ≡ packed
-        (rows (owed net.now session.now.from session.now.to session.now.adj_rib_out best.now))
+        (rows
+        (owed_over net.now (held_under pool.now best.now) (session_under pool.now session.now)))
         (router_of net.now session.now.from).0) }
     ensures fits { IfOk result (λ u. fits u ≡ true) }
 {
     if lists.withdrawals.is_empty() {
-        return announcing(alloc, net, session, best, lists);
+        return announcing(alloc, net, pool, session, best, lists);
     }
     Ok(Update {
         withdrawn: Items::make(fitting(alloc, lists.withdrawals.rows())?),

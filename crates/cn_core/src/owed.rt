@@ -1,18 +1,23 @@
 //! What a session owes (RFC 4271, 9.2).
 
-ghost use Rattle.std.specs.Prelude.{◌≡◌, ◌⊎◌, ℕ, ◌==◌, ◌&&◌, ◌<◌, ◌≤◌, ◌^◌, IfOk, OnErr, OnOk, None, length, map, option_copied, slice_index, slice_index_or, true};
+ghost use Rattle.std.specs.Prelude.{◌≡◌, ◌⊎◌, ℕ, ◌==◌, ◌&&◌, ◌<◌, ◌≤◌, ◌^◌, IfOk, OnErr, OnOk, None, length, map, option_copied, option_map, slice_index, slice_index_or, true};
 ghost use Rattle.std.specs.FinMap as fin;
 ghost use Rattle.cn_core.specs.declared.owed.Owed.{Owed as Listed};
-ghost use Rattle.cn_core.specs.Owed.{offered_attributes, owed, unless_sent};
-ghost use Rattle.cn_core.specs.Machine.{decided, put_out};
-ghost use Rattle.cn_core.specs.OwedLists.{AreAdded, AreElsewhere, AreListedBut, AreListedFrom, AreSomeAdded, IsListed, due_of, count_of, empty_lists, only_due, with_all_due, with_due, without_all};
+ghost use Rattle.cn_core.specs.Owed.{offered_attributes, unless_sent};
+ghost use Rattle.cn_core.specs.Machine.{put_out};
+ghost use Rattle.cn_core.specs.Stored.{IsSessionUnder, best_decided, choice_under, held_under, session_under};
+ghost use Rattle.cn_pool.specs.Pool.{Extends};
+ghost use Rattle.cn_rib.specs.Interned.{attributes_under};
+ghost use Rattle.cn_core.specs.OwedLists.{AreAdded, AreElsewhere, AreListedBut, AreListedFrom, AreSomeAdded, IsListed, due_of, count_of, empty_lists, only_due, owed_over, with_all_due, with_due, without_all};
 ghost use Rattle.cn_rib.specs.Updates.{prefixes_of};
 ghost use Rattle.cn_wire.specs.Writing.{fits};
 
+use crate::best::Best;
 use crate::session::{Rib, Session};
-use cn_base::{Attributes, Choice, DeviceId, Prefix};
+use cn_base::{DeviceId, Prefix};
 use cn_net::Net;
-use cn_rib::{PrefixMap, PrefixSet, Row, Tally};
+use cn_pool::Pool;
+use cn_rib::{Interned, PrefixMap, PrefixSet, Row, Tally};
 use cn_wire::Update;
 use std::alloc::{AllocError, Global};
 
@@ -34,9 +39,10 @@ pub struct Owed {
 // ---- for one prefix
 
 // What is owed where nothing is offered.
-fn due_unoffered(sent: Option<&Attributes>) -> Due
-    ensures { result ≡ due_of (unless_sent (option_copied sent.entry) None) }
+fn due_unoffered(pool: &Pool, sent: Option<Interned>) -> Due
+    ensures { result ≡ due_of (unless_sent (option_map (attributes_under pool.now) sent) None) }
 {
+    let _ = pool;
     match sent {
         Some(_) => Due::Withdrawal,
         None => Due::Nothing,
@@ -46,32 +52,36 @@ fn due_unoffered(sent: Option<&Attributes>) -> Due
 // What is owed for a prefix, by what was sent and by what the sender holds.
 fn due_with(
     net: &Net,
+    pool: &Pool,
     from: DeviceId,
     to: DeviceId,
     prefix: &Prefix,
-    sent: Option<&Attributes>,
-    held: Option<&Choice>,
+    sent: Option<Interned>,
+    held: Option<&Best>,
 ) -> Due
     ensures { result
-        ≡ due_of (unless_sent (option_copied sent.entry)
-        (offered_attributes net.now from to prefix.now (option_copied held.entry))) }
+        ≡ due_of (unless_sent (option_map (attributes_under pool.now) sent)
+        (offered_attributes net.now from to prefix.now
+        (option_map (choice_under pool.now) (option_copied held.entry)))) }
 {
-    let Some(choice) = held else {
-        return due_unoffered(sent);
+    let Some(best) = held else {
+        return due_unoffered(pool, sent);
     };
-    if !net.has_offer(from, to, prefix, &choice.path) {
-        return due_unoffered(sent);
+    let path = pool.path(best.path);
+    if !net.has_offer(from, to, prefix, path) {
+        return due_unoffered(pool, sent);
     }
     let Some(sent) = sent else {
         return Due::Announcement;
     };
+    let sent_path = pool.path(sent.path);
     if net.is_offer(
         from,
         to,
         prefix,
-        &choice.path,
-        choice.origin,
-        &sent.path,
+        path,
+        best.origin,
+        sent_path,
         sent.origin,
     ) {
         return Due::Nothing;
@@ -80,18 +90,25 @@ fn due_with(
 }
 
 // What a session owes for a prefix.
-fn due_for(net: &Net, session: &Session, best: &PrefixMap<Choice>, prefix: &Prefix) -> Due
+fn due_for(
+    net: &Net,
+    pool: &Pool,
+    session: &Session,
+    best: &PrefixMap<Best>,
+    prefix: &Prefix,
+) -> Due
     ensures { result
         ≡ due_of (fin.get
-        (owed net.now session.now.from session.now.to session.now.adj_rib_out best.now)
+        (owed_over net.now (held_under pool.now best.now) (session_under pool.now session.now))
         prefix.now) }
 {
     due_with(
         net,
+        pool,
         session.from,
         session.to,
         prefix,
-        session.adj_rib_out.get(prefix),
+        session.adj_rib_out.at(prefix),
         best.get(prefix),
     )
 }
@@ -164,18 +181,19 @@ impl Owed {
     fn add_all<V>(
         &mut self,
         net: &Net,
+        pool: &Pool,
         session: &Session,
-        best: &PrefixMap<Choice>,
+        best: &PrefixMap<Best>,
         rows: &[Row<V>],
     ) -> Result<(), AllocError>
         ensures { OnOk result
             (self.new
             ≡ with_all_due
-            (owed net.now session.now.from session.now.to session.now.adj_rib_out best.now)
+            (owed_over net.now (held_under pool.now best.now) (session_under pool.now session.now))
             self.old (map (λ r. r.prefix) rows.now)) }
     {
         for row in rows {
-            let due = due_for(net, session, best, &row.prefix);
+            let due = due_for(net, pool, session, best, &row.prefix);
             self.add(&row.prefix, due)?;
         }
         Ok(())
@@ -186,103 +204,55 @@ impl Owed {
 pub fn listed(
     alloc: Global,
     net: &Net,
+    pool: &Pool,
     session: &Session,
-    best: &PrefixMap<Choice>,
+    best: &PrefixMap<Best>,
 ) -> Result<Owed, AllocError>
     ensures { IfOk result (λ lists. IsListed
-        (owed net.now session.now.from session.now.to session.now.adj_rib_out best.now) lists) }
+        (owed_over net.now (held_under pool.now best.now) (session_under pool.now session.now))
+        lists) }
 {
     let mut lists = Owed::new(alloc);
-    lists.add_all(net, session, best, session.adj_rib_out.rows())?;
-    lists.add_all(net, session, best, best.rows())?;
+    lists.add_all(net, pool, session, best, session.adj_rib_out.rows())?;
+    lists.add_all(net, pool, session, best, best.rows())?;
     Ok(lists)
 }
 
 // ---- after a decision
 
-// What these sessions owe for a prefix, once their sender holds a choice, is put in where it isn't.
-fn add_decided(
+// What each of these sessions owes for a prefix, once their sender holds a choice.
+fn dues(
+    alloc: Global,
     net: &Net,
+    pool: &Pool,
     sessions: &[Session],
-    lists: &mut Vec<Owed>,
     start: usize,
     end: usize,
     prefix: &Prefix,
-    held: Option<&Choice>,
-) -> Result<(), AllocError>
-    requires inside { end ≤ length sessions.now }
-    requires many { length lists.old.items ≡ length sessions.now }
-    ensures added { OnOk result
-        (AreAdded net.now (option_copied held.entry) prefix.now sessions.now start end
-        lists.old.items lists.new.items) }
-    ensures some { AreSomeAdded net.now (option_copied held.entry) prefix.now sessions.now start end
-        lists.old.items lists.new.items }
-    ensures elsewhere { AreElsewhere start end lists.old.items lists.new.items }
+    held: Option<&Best>,
+) -> Result<Vec<Due>, AllocError>
+    requires { end ≤ length sessions.now }
+    ensures { IfOk result (λ dues. AreDues net.now
+        (option_map (choice_under pool.now) (option_copied held.entry)) prefix.now
+        (map (session_under pool.now) sessions.now) start end dues.items) }
 {
+    let mut dues = Vec::with_capacity(alloc, end.saturating_sub(start))?;
     for at in start..end {
         let session = &sessions[at];
-        let sent = session.adj_rib_out.get(prefix);
-        let due = due_with(net, session.from, session.to, prefix, sent, held);
-        lists[at].add(prefix, due)?;
+        let sent = session.adj_rib_out.at(prefix);
+        dues.push(due_with(
+            net,
+            pool,
+            session.from,
+            session.to,
+            prefix,
+            sent,
+            held,
+        ))?;
     }
-    Ok(())
+    Ok(dues)
 }
-
-// A prefix is taken out of the lists of these sessions in which it doesn't belong.
-fn keep_due(
-    net: &Net,
-    sessions: &[Session],
-    best: &PrefixMap<Choice>,
-    lists: &mut Vec<Owed>,
-    start: usize,
-    end: usize,
-    prefix: &Prefix,
-)
-    requires inside { end ≤ length sessions.now }
-    requires many { length lists.old.items ≡ length sessions.now }
-    requires but { AreListedBut net.now best.now prefix.now sessions.now start end lists.old.items }
-    ensures listed { AreListedFrom net.now best.now sessions.now start end lists.new.items }
-    ensures elsewhere { AreElsewhere start end lists.old.items lists.new.items }
-{
-    for at in start..end {
-        let due = due_for(net, &sessions[at], best, prefix);
-        lists[at].keep(prefix, due);
-    }
-}
-
-/// A device holds a choice for a prefix, and its sessions, which stand at these places, have what
-/// they owe then. All memory is taken before anything is taken out, and given back in the end.
-pub fn decide(
-    net: &Net,
-    sessions: &[Session],
-    lists: &mut Vec<Owed>,
-    start: usize,
-    end: usize,
-    rib: &mut Rib,
-    prefix: &Prefix,
-    choice: Option<Choice>,
-) -> Result<(), AllocError>
-    requires inside { end ≤ length sessions.now }
-    requires many { length lists.old.items ≡ length sessions.now }
-    requires listed { AreListedFrom net.now rib.old.loc_rib sessions.now start end lists.old.items }
-    ensures ok { OnOk result (rib.new ≡ decided rib.old prefix.now choice) }
-    ensures err { OnErr result (rib.new ≡ rib.old) }
-    ensures listed { AreListedFrom net.now rib.new.loc_rib sessions.now start end lists.new.items }
-    ensures elsewhere { AreElsewhere start end lists.old.items lists.new.items }
-{
-    let held = choice.as_ref();
-    if let Err(no_memory) = add_decided(net, sessions, lists, start, end, prefix, held) {
-        keep_due(net, sessions, &rib.loc_rib, lists, start, end, prefix);
-        return Err(no_memory);
-    }
-    if let Err(no_memory) = rib.decide(prefix, choice) {
-        keep_due(net, sessions, &rib.loc_rib, lists, start, end, prefix);
-        return Err(no_memory);
-    }
-    keep_due(net, sessions, &rib.loc_rib, lists, start, end, prefix);
-    Ok(())
-}
-
+@@@REST@@@
 /// How much each of these sessions owes, which stand at these places, is counted anew.
 pub fn count(tally: &mut Tally, lists: &[Owed], start: usize, end: usize)
     requires inside { end ≤ length lists.now }
@@ -304,18 +274,23 @@ pub fn count(tally: &mut Tally, lists: &[Owed], start: usize, end: usize)
 /// A message is sent over a session, which owes its prefixes no more.
 pub fn send(
     alloc: Global,
+    pool: &mut Pool,
     session: &mut Session,
     lists: &mut Owed,
     update: &Update,
 ) -> Result<(), AllocError>
     requires room { length session.old.mail < 64 }
     requires fits { fits update.now ≡ true }
-    ensures session { OnOk result (session.new ≡ put_out update.now session.old) }
+    requires under { IsSessionUnder pool.old session.old }
+    ensures session { OnOk result (session_under pool.new session.new
+        ≡ put_out update.now (session_under pool.old session.old)) }
     ensures lists { OnOk result (lists.new ≡ without_all lists.old (prefixes_of update.now)) }
+    ensures under { IsSessionUnder pool.new session.new }
+    ensures kept { Extends pool.old pool.new }
     ensures err_session { OnErr result (session.new ≡ session.old) }
     ensures err_lists { OnErr result (lists.new ≡ lists.old) }
 {
-    session.put_out(alloc, update)?;
+    session.put_out(alloc, pool, update)?;
     lists.forget(update);
     Ok(())
 }

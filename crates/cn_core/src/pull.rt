@@ -4,13 +4,16 @@ ghost use Rattle.std.specs.Prelude.{◌≡◌, All, IfOk};
 ghost use Rattle.cn_base.specs.Table.{AscendsByPrefix, choice_for};
 ghost use Rattle.cn_base.specs.Cidr.{Cidr};
 ghost use Rattle.cn_core.specs.Laws.{held_in};
+ghost use Rattle.cn_core.specs.Stored.{held_under, stands_for};
 ghost use Rattle.cn_core.specs.Tables.{AreTables, DevicesAscend};
 ghost use Rattle.cn_net.specs.Network.{IsDevice};
 ghost use Rattle.std.specs.FinMap as fin;
 
+use crate::best::Best;
 use crate::engine::Engine;
 use cn_base::{Choice, DeviceId, Standing, Table, TableRow};
 use cn_net::DeviceSet;
+use cn_pool::Pool;
 use cn_rib::PrefixMap;
 use std::alloc::{AllocError, Global};
 use std::marker::Model;
@@ -106,15 +109,17 @@ impl Pull {
 }
 
 // What a device holds, as a table.
-fn table(alloc: Global, best: &PrefixMap<Choice>) -> Result<Table, AllocError>
-    ensures { IfOk result
-        (λ table. AscendsByPrefix table × ((p : Cidr) → choice_for table p ≡ fin.get best.now p)) }
+fn table(alloc: Global, pool: &Pool, best: &PrefixMap<Best>) -> Result<Table, AllocError>
+    ensures { IfOk result (λ table. AscendsByPrefix table
+        × ((p : Cidr) → choice_for table p ≡ fin.get (held_under pool.now best.now) p)) }
 {
     let mut rows = Vec::with_capacity(alloc, best.len())?;
     for row in best.rows() {
+        let Best { from, path, origin } = row.value;
+        let path = pool.path(path).copy(alloc)?;
         rows.push(TableRow {
             prefix: row.prefix,
-            choice: row.value.copy(alloc)?,
+            choice: Choice { from, path, origin },
         })?;
     }
     Ok(Table::make(rows))
@@ -124,14 +129,14 @@ impl Engine {
     /// The tables of these devices.
     pub fn tables(&self, alloc: Global, devices: &DeviceSet) -> Result<Tables, AllocError>
         requires { All (IsDevice self.now.now.net) devices.now }
-        ensures { IfOk result (λ tables. AreTables devices.now (held_in self.now) tables) }
+        ensures { IfOk result (λ tables. AreTables devices.now (held_in (stands_for self.now)) tables) }
     {
         let mut tables = Vec::with_capacity(alloc, devices.len())?;
         for device in devices.items() {
             let rib = self.rib(*device);
             tables.push(DeviceTable {
                 device: *device,
-                table: table(alloc, &rib.loc_rib)?,
+                table: table(alloc, &self.pool, &rib.loc_rib)?,
             })?;
         }
         Ok(Tables::make(tables))

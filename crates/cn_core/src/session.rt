@@ -2,74 +2,58 @@
 
 ghost use Rattle.std.specs.Prelude.{◌≡◌, ◌<◌, OnOk, OnErr, length, true};
 ghost use Rattle.cn_core.specs.Parts.{received, with_all_dirty};
-ghost use Rattle.cn_core.specs.Machine.{decided, put_out};
+ghost use Rattle.cn_core.specs.Machine.{put_out};
+ghost use Rattle.cn_core.specs.Stored.{IsSessionUnder, best_decided, rib_under, session_under};
+ghost use Rattle.cn_pool.specs.Pool.{Extends};
 ghost use Rattle.cn_wire.specs.Writing.{fits};
 
-use cn_base::{Choice, DeviceId, Items, Prefix};
+use crate::best::Best;
+use cn_base::{DeviceId, Items, Prefix};
 use cn_mail::Mailbox;
-use cn_rib::{PrefixMap, PrefixSet, RibIn, RibOut, take_in};
+use cn_pool::Pool;
+use cn_rib::{IdRib, PrefixMap, PrefixSet, take_in_ids};
 use cn_wire::{Update, WireAnswer, decode, encode};
 use std::alloc::{AllocError, Global};
-use std::marker::Model;
 
 /// A directed session: what was sent over it (the sender's Adj-RIB-Out), the messages that are
 /// under way, each as its octets, and what came in over it (the receiver's Adj-RIB-In; RFC 4271,
-/// 3.2).
+/// 3.2). The paths are held in the pool of the engine.
 #[derive(Drop)]
 pub struct Session {
     pub from: DeviceId,
     pub to: DeviceId,
-    pub adj_rib_out: RibOut,
+    pub adj_rib_out: IdRib,
     pub mail: Mailbox<Items<u8>>,
-    pub adj_rib_in: RibIn,
-}
-
-impl Model for Session {
-    ghost use Rattle.cn_core.specs.Codes.{session_code};
-    ghost use Rattle.cn_core.specs.State.{SessionState};
-
-    ghost Value = { SessionState };
-
-    ghost coded = { session_code };
-
-    ghost view = { λ x. record {
-      from = x.from;
-      to = x.to;
-      adj_rib_out = x.adj_rib_out;
-      mail = x.mail;
-      adj_rib_in = x.adj_rib_in;
-    } };
+    pub adj_rib_in: IdRib,
 }
 
 /// What a device holds (its Loc-RIB; RFC 4271, 3.2), and the prefixes for which it is to decide
 /// again.
 #[derive(Drop)]
 pub struct Rib {
-    pub loc_rib: PrefixMap<Choice>,
+    pub loc_rib: PrefixMap<Best>,
     pub dirty: PrefixSet,
-}
-
-impl Model for Rib {
-    ghost use Rattle.cn_core.specs.Codes.{rib_code};
-    ghost use Rattle.cn_core.specs.State.{RibState};
-
-    ghost Value = { RibState };
-
-    ghost coded = { rib_code };
-
-    ghost view = { λ x. record { loc_rib = x.loc_rib; dirty = x.dirty } };
 }
 
 impl Session {
     /// What an update says counts as sent, and the octets that spell it stand last in the mailbox.
-    pub fn put_out(&mut self, alloc: Global, update: &Update) -> Result<(), AllocError>
+    pub fn put_out(
+        &mut self,
+        alloc: Global,
+        pool: &mut Pool,
+        update: &Update,
+    ) -> Result<(), AllocError>
         requires room { length self.old.mail < 64 }
         requires fits { fits update.now ≡ true }
-        ensures ok { OnOk result (self.new ≡ put_out update.now self.old) }
+        requires under { IsSessionUnder pool.old self.old }
+        ensures ok { OnOk result (session_under pool.new self.new
+            ≡ put_out update.now (session_under pool.old self.old)) }
+        ensures under { IsSessionUnder pool.new self.new }
+        ensures kept { Extends pool.old pool.new }
         ensures err { OnErr result (self.new ≡ self.old) }
     {
         let octets = encode(alloc, update)?;
-        self.adj_rib_out.apply(alloc, update)?;
+        self.adj_rib_out.apply(alloc, pool, update)?;
         if self.mail.push(Items::make(octets)).is_err() {
             unreachable!();
         }
@@ -79,8 +63,8 @@ impl Session {
 
 impl Rib {
     /// The choice is held, and the prefix is clean.
-    pub fn decide(&mut self, prefix: &Prefix, choice: Option<Choice>) -> Result<(), AllocError>
-        ensures ok { OnOk result (self.new ≡ decided self.old prefix.now choice) }
+    pub fn decide(&mut self, prefix: &Prefix, choice: Option<Best>) -> Result<(), AllocError>
+        ensures ok { OnOk result (self.new ≡ best_decided self.old prefix.now choice) }
         ensures err { OnErr result (self.new ≡ self.old) }
     {
         match choice {
@@ -94,9 +78,20 @@ impl Rib {
 
 /// The update that the first message of a session spells is taken in, and its prefixes become dirty
 /// at the receiver. Octets that spell none change nothing.
-pub fn receive(alloc: Global, session: &mut Session, rib: &mut Rib) -> Result<(), AllocError>
-    ensures session { OnOk result (session.new ≡ received session.old) }
-    ensures rib { OnOk result (rib.new ≡ with_all_dirty session.old.mail rib.old) }
+pub fn receive(
+    alloc: Global,
+    pool: &mut Pool,
+    session: &mut Session,
+    rib: &mut Rib,
+) -> Result<(), AllocError>
+    requires { IsSessionUnder pool.old session.old }
+    ensures session { OnOk result (session_under pool.new session.new
+        ≡ received (session_under pool.old session.old)) }
+    ensures rib { OnOk result (rib_under pool.old rib.new
+        ≡ with_all_dirty session.old.mail (rib_under pool.old rib.old)) }
+    ensures best { rib.new.loc_rib ≡ rib.old.loc_rib }
+    ensures under { IsSessionUnder pool.new session.new }
+    ensures kept { Extends pool.old pool.new }
     ensures err_session { OnErr result (session.new ≡ session.old) }
     ensures err_rib { OnErr result (rib.new ≡ rib.old) }
 {
@@ -108,7 +103,7 @@ pub fn receive(alloc: Global, session: &mut Session, rib: &mut Rib) -> Result<()
         Err(WireAnswer::Fault(_)) => return Ok(()),
         Err(WireAnswer::Memory) => return Err(AllocError),
     };
-    take_in(alloc, &mut session.adj_rib_in, &mut rib.dirty, &update)?;
+    take_in_ids(alloc, pool, &mut session.adj_rib_in, &mut rib.dirty, &update)?;
     session.mail.pop();
     Ok(())
 }

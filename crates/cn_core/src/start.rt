@@ -1,41 +1,44 @@
 //! The state at the start: nothing was sent, the own prefixes of each emulated device are dirty,
 //! and each speaker holds what it says.
 
-ghost use Rattle.std.specs.Prelude.{◌≡◌, ◌<◌, ◌^◌, All, IfErr, IfOk, OnOk, length, map, option_copied};
+ghost use Rattle.std.specs.Prelude.{◌≡◌, ◌<◌, ◌^◌, ◌∷◌, [], All, IfErr, IfOk, OnOk, length, map, option_copied};
 ghost use Rattle.cn_record.specs.Rows.{AscendsByPair};
-ghost use Rattle.cn_core.specs.OwedLists.{AreListed, IsRight, count_of};
-ghost use Rattle.cn_core.specs.Start.{emulated_rib, first_rib, first_ribs, first_sessions, rows_of, said_routes, speaker_rib, start, with_choice};
-ghost use Rattle.cn_core.specs.State.{empty_session};
+ghost use Rattle.cn_core.specs.OwedLists.{AreListed, count_of};
+ghost use Rattle.cn_core.specs.Start.{emulated_rib, first_rib, first_ribs, rows_of, said_routes, speaker_rib, start, with_choice};
+ghost use Rattle.cn_core.specs.Stored.{IsHeldUnder, IsKeptRight, held_under, rib_under, stands_for, unsent};
+ghost use Rattle.cn_pool.specs.Pool.{Extends};
 ghost use Rattle.cn_rib.specs.PrefixSet as set;
 ghost use Rattle.std.specs.FinMap as fin;
 
+use crate::best::Best;
 use crate::engine::Engine;
 use crate::owed::{Owed, count, listed};
 use crate::session::{Rib, Session};
-use cn_base::{Choice, DeviceId, Prefix};
+use cn_base::{AsPath, Choice, DeviceId, Prefix};
 use cn_lists::part_at;
 use cn_mail::Mailbox;
 use cn_net::{Certified, DeviceSet, Own, SessionIndex, session_count};
+use cn_pool::Pool;
 use cn_record::{Recorded, Row};
-use cn_rib::{PrefixMap, PrefixSet, RibIn, RibOut, Tally};
+use cn_rib::{IdRib, PrefixMap, PrefixSet, Tally};
 use std::alloc::{AllocError, Global};
 
 fn session(alloc: Global, from: DeviceId, to: DeviceId) -> Result<Session, AllocError>
-    ensures { IfOk result (λ session. session ≡ empty_session from to) }
+    ensures { IfOk result (λ session. session ≡ unsent from to) }
 {
     Ok(Session {
         from,
         to,
-        adj_rib_out: RibOut::new(alloc),
+        adj_rib_out: IdRib::new(alloc),
         mail: Mailbox::new(alloc)?,
-        adj_rib_in: RibIn::new(alloc),
+        adj_rib_in: IdRib::new(alloc),
     })
 }
 
 // An empty session for each that is kept, by the places of the index.
 fn sessions(alloc: Global, index: &SessionIndex) -> Result<Vec<Session>, AllocError>
     ensures { IfOk result (λ sessions.
-        sessions.items ≡ map (λ e. empty_session e.from e.to) index.now) }
+        sessions.items ≡ map (λ e. unsent e.from e.to) index.now) }
 {
     let mut sessions = Vec::with_capacity(alloc, index.len())?;
     for place in 0..index.len() {
@@ -60,7 +63,8 @@ fn own_dirty(alloc: Global, own: &[Own]) -> Result<PrefixSet, AllocError>
 
 // What an emulated device holds at the start.
 fn emulated_rib(alloc: Global, certified: &Certified, device: DeviceId) -> Result<Rib, AllocError>
-    ensures { IfOk result (λ rib. rib ≡ emulated_rib certified.now device) }
+    ensures { IfOk result (λ rib. (rib.loc_rib ≡ fin.empty)
+        × (rib.dirty ≡ (emulated_rib certified.now device).dirty)) }
 {
     let dirty = match certified.net().device(device) {
         Some(device) => own_dirty(alloc, device.body.own.items())?,
@@ -83,82 +87,127 @@ fn rows_of(rows: &[Row], device: DeviceId) -> &[Row]
 // The choice is held too, if there is one.
 fn hold(
     alloc: Global,
-    routes: &mut PrefixMap<Choice>,
+    pool: &mut Pool,
+    routes: &mut PrefixMap<Best>,
     prefix: Prefix,
     choice: Option<&Choice>,
 ) -> Result<(), AllocError>
-    ensures { OnOk result
-        (routes.new ≡ with_choice routes.old prefix (option_copied choice.entry)) }
+    requires { IsHeldUnder pool.old routes.old }
+    ensures routes { OnOk result (held_under pool.new routes.new
+        ≡ with_choice (held_under pool.old routes.old) prefix (option_copied choice.entry)) }
+    ensures under { OnOk result (IsHeldUnder pool.new routes.new) }
+    ensures kept { OnOk result (Extends pool.old pool.new) }
 {
-    match choice {
-        Some(choice) => routes.insert(prefix, choice.copy(alloc)?),
-        None => Ok(()),
-    }
+    let Some(choice) = choice else {
+        return Ok(());
+    };
+    let path = pool.intern_copy(alloc, &choice.path)?;
+    let (from, origin) = (choice.from, choice.origin);
+    routes.insert(prefix, Best { from, path, origin })
 }
 
 // What a speaker says.
 fn said_routes(
     alloc: Global,
+    pool: &mut Pool,
     recorded: &Recorded,
     device: DeviceId,
-) -> Result<PrefixMap<Choice>, AllocError>
-    ensures { IfOk result (λ routes. routes ≡ said_routes recorded.now device) }
+) -> Result<PrefixMap<Best>, AllocError>
+    ensures routes { IfOk result
+        (λ routes. held_under pool.new routes ≡ said_routes recorded.now device) }
+    ensures under { IfOk result (λ routes. IsHeldUnder pool.new routes) }
+    ensures kept { OnOk result (Extends pool.old pool.new) }
 {
     recorded.valid();
     let mut routes = PrefixMap::new(alloc);
     for row in rows_of(recorded.rows(), device) {
         let said = recorded.said(device, &row.prefix);
-        hold(alloc, &mut routes, row.prefix, said)?;
+        hold(alloc, pool, &mut routes, row.prefix, said)?;
     }
     Ok(routes)
 }
 
 // What a speaker holds from the start.
-fn speaker_rib(alloc: Global, recorded: &Recorded, device: DeviceId) -> Result<Rib, AllocError>
-    ensures { IfOk result (λ rib. rib ≡ speaker_rib recorded.now device) }
+fn speaker_rib(
+    alloc: Global,
+    pool: &mut Pool,
+    recorded: &Recorded,
+    device: DeviceId,
+) -> Result<Rib, AllocError>
+    ensures rib { IfOk result (λ rib. rib_under pool.new rib ≡ speaker_rib recorded.now device) }
+    ensures under { IfOk result (λ rib. IsHeldUnder pool.new rib.loc_rib) }
+    ensures kept { OnOk result (Extends pool.old pool.new) }
 {
     Ok(Rib {
-        loc_rib: said_routes(alloc, recorded, device)?,
+        loc_rib: said_routes(alloc, pool, recorded, device)?,
         dirty: PrefixSet::new(alloc),
     })
 }
 
-fn rib(alloc: Global, recorded: &Recorded, device: DeviceId) -> Result<Rib, AllocError>
-    ensures { IfOk result (λ rib. rib ≡ first_rib recorded.now device) }
+fn rib(
+    alloc: Global,
+    pool: &mut Pool,
+    recorded: &Recorded,
+    device: DeviceId,
+) -> Result<Rib, AllocError>
+    ensures rib { IfOk result (λ rib. rib_under pool.new rib ≡ first_rib recorded.now device) }
+    ensures under { IfOk result (λ rib. IsHeldUnder pool.new rib.loc_rib) }
+    ensures kept { OnOk result (Extends pool.old pool.new) }
 {
     let certified = recorded.certified();
     if certified.emulated().holds(device) {
         return emulated_rib(alloc, certified, device);
     }
-    speaker_rib(alloc, recorded, device)
+    speaker_rib(alloc, pool, recorded, device)
 }
 
-fn ribs(alloc: Global, recorded: &Recorded) -> Result<Vec<Rib>, AllocError>
-    ensures { IfOk result (λ ribs. ribs.items ≡ first_ribs recorded.now) }
+fn ribs(alloc: Global, pool: &mut Pool, recorded: &Recorded) -> Result<Vec<Rib>, AllocError>
+    ensures ribs { IfOk result
+        (λ ribs. map (rib_under pool.new) ribs.items ≡ first_ribs recorded.now) }
+    ensures under { IfOk result
+        (λ ribs. All (λ rib. IsHeldUnder pool.new rib.loc_rib) ribs.items) }
+    ensures kept { OnOk result (Extends pool.old pool.new) }
 {
     let mut ribs = Vec::new(alloc);
     for device in 0..recorded.certified().net().count() {
-        ribs.push(rib(alloc, recorded, DeviceId(device))?)?;
+        ribs.push(rib(alloc, pool, recorded, DeviceId(device))?)?;
     }
     Ok(ribs)
+}
+
+// The pool with the empty path.
+fn first_pool(alloc: Global) -> Result<Pool, AllocError>
+    ensures { IfOk result (λ pool. pool ≡ [] ∷ []) }
+{
+    let mut pool = Pool::new(alloc);
+    match pool.intern(AsPath::empty(alloc)) {
+        Ok(_) => Ok(pool),
+        Err(_) => Err(AllocError),
+    }
 }
 
 // What each session owes.
 fn lists(
     alloc: Global,
     certified: &Certified,
+    pool: &Pool,
     sessions: &[Session],
     ribs: &[Rib],
 ) -> Result<Vec<Owed>, AllocError>
     requires { All (λ x. x.from.0 < length ribs.now) sessions.now }
     ensures { IfOk result (λ lists. AreListed
-        (record { now = certified.now; sessions = sessions.now; ribs = ribs.now }) lists.items) }
+        (stands_for (record {
+          now = certified.now;
+          pool = pool.now;
+          sessions = sessions.now;
+          ribs = ribs.now;
+        })) lists.items) }
 {
     let net = certified.net();
     let mut lists = Vec::with_capacity(alloc, sessions.len())?;
     for session in sessions {
         let rib = &ribs[session.from.0 as usize];
-        lists.push(listed(alloc, net, session, &rib.loc_rib)?)?;
+        lists.push(listed(alloc, net, pool, session, &rib.loc_rib)?)?;
     }
     Ok(lists)
 }
@@ -195,6 +244,7 @@ pub struct Opened {
 // What is made of an opening for the start.
 struct Parts {
     index: SessionIndex,
+    pool: Pool,
     sessions: Vec<Session>,
     ribs: Vec<Rib>,
     owed: Vec<Owed>,
@@ -206,11 +256,18 @@ struct Parts {
 
 // What the start is made of.
 fn made(alloc: Global, recorded: &Recorded) -> Result<Parts, AllocError>
-    ensures sessions { IfOk result
-        (λ made. made.sessions.items ≡ first_sessions recorded.now.opening) }
-    ensures ribs { IfOk result (λ made. made.ribs.items ≡ first_ribs recorded.now) }
-    ensures right { IfOk result (λ made. IsRight (start recorded.now) made.index made.owed.items
-        made.in_mail made.in_lists made.in_ribs) }
+    ensures start { IfOk result (λ made. stands_for (record {
+          now = recorded.now.opening;
+          pool = made.pool;
+          sessions = made.sessions.items;
+          ribs = made.ribs.items;
+        }) ≡ start recorded.now) }
+    ensures right { IfOk result (λ made. IsKeptRight (record {
+          now = recorded.now.opening;
+          pool = made.pool;
+          sessions = made.sessions.items;
+          ribs = made.ribs.items;
+        }) made.index made.owed.items made.in_mail made.in_lists made.in_ribs) }
     ensures emulated { IfOk result (λ made. made.emulated ≡ recorded.now.opening.emulated) }
 {
     recorded.valid();
@@ -220,14 +277,16 @@ fn made(alloc: Global, recorded: &Recorded) -> Result<Parts, AllocError>
     let index = SessionIndex::make(alloc, net, emulated)?;
     let slots = session_count(net, emulated);
     let sessions = sessions(alloc, &index)?;
-    let ribs = ribs(alloc, recorded)?;
-    let owed = lists(alloc, certified, &sessions, &ribs)?;
+    let mut pool = first_pool(alloc)?;
+    let ribs = ribs(alloc, &mut pool, recorded)?;
+    let owed = lists(alloc, certified, &pool, &sessions, &ribs)?;
     let in_mail = Tally::new(alloc, slots as u32)?;
     let in_lists = counted_lists(alloc, &owed)?;
     let in_ribs = counted_ribs(alloc, &ribs)?;
     let emulated = emulated.copy(alloc)?;
     Ok(Parts {
         index,
+        pool,
         sessions,
         ribs,
         owed,
@@ -241,7 +300,7 @@ fn made(alloc: Global, recorded: &Recorded) -> Result<Parts, AllocError>
 /// The state at the start. The opening is handed back for want of memory.
 #[tactic(auto, unfolding(crate::specs::Start::start))]
 pub fn open(alloc: Global, recorded: Recorded) -> Result<Opened, Recorded>
-    ensures engine { IfOk result (λ made. made.engine ≡ start recorded) }
+    ensures engine { IfOk result (λ made. stands_for made.engine ≡ start recorded) }
     ensures emulated { IfOk result (λ made. made.emulated ≡ recorded.opening.emulated) }
     ensures err { IfErr result (λ back. back ≡ recorded) }
 {
@@ -250,6 +309,7 @@ pub fn open(alloc: Global, recorded: Recorded) -> Result<Opened, Recorded>
     };
     let Parts {
         index,
+        pool,
         sessions,
         ribs,
         owed,
@@ -262,6 +322,7 @@ pub fn open(alloc: Global, recorded: Recorded) -> Result<Opened, Recorded>
     Ok(Opened {
         engine: Engine {
             certified,
+            pool,
             index,
             sessions,
             ribs,

@@ -19,12 +19,16 @@
 #![tactic(auto)]
 
 mod bits;
+mod id_rib;
+mod interned;
 pub mod laws;
 mod prefix_map;
 mod prefix_set;
 mod routes;
 mod tally;
 
+pub use id_rib::{IdRib, take_in_ids};
+pub use interned::Interned;
 pub use prefix_map::{PrefixMap, Row};
 pub use prefix_set::PrefixSet;
 pub use routes::{RibIn, RibOut, take_in};
