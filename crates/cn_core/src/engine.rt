@@ -172,7 +172,17 @@ impl Engine {
         let net = self.certified.net();
         let rib = &mut self.ribs[device.0 as usize];
         let lists = &mut self.owed;
-        let done = decide(net, &self.sessions, lists, start, end, rib, prefix, choice);
+        let done = decide(
+            alloc,
+            net,
+            &self.sessions,
+            lists,
+            start,
+            end,
+            rib,
+            prefix,
+            choice,
+        );
         count(&mut self.in_lists, &self.owed, start, end);
         self.in_ribs.set(device.0, rib.dirty.len() as u128);
         done

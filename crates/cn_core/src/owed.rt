@@ -1,11 +1,11 @@
 //! What a session owes (RFC 4271, 9.2).
 
-ghost use Rattle.std.specs.Prelude.{◌≡◌, ◌⊎◌, ℕ, ◌==◌, ◌&&◌, ◌<◌, ◌≤◌, ◌^◌, IfOk, OnErr, OnOk, None, length, map, option_copied, slice_index, slice_index_or, true};
+ghost use Rattle.std.specs.Prelude.{◌≡◌, ◌⊎◌, ℕ, ◌-◌, ◌==◌, ◌&&◌, ◌<◌, ◌≤◌, ◌^◌, IfOk, OnErr, OnOk, None, length, map, option_copied, slice_index, slice_index_or, true};
 ghost use Rattle.std.specs.FinMap as fin;
 ghost use Rattle.cn_core.specs.declared.owed.Owed.{Owed as Listed};
 ghost use Rattle.cn_core.specs.Owed.{offered_attributes, owed, unless_sent};
 ghost use Rattle.cn_core.specs.Machine.{decided, put_out};
-ghost use Rattle.cn_core.specs.OwedLists.{AreAdded, AreElsewhere, AreListedBut, AreListedFrom, AreSomeAdded, IsListed, due_of, count_of, empty_lists, only_due, with_all_due, with_due, without_all};
+ghost use Rattle.cn_core.specs.OwedLists.{AreAdded, AreDues, AreElsewhere, AreKept, AreListedBut, AreListedFrom, AreSomeAdded, IsListed, due_of, count_of, empty_lists, only_due, with_all_due, with_due, without_all};
 ghost use Rattle.cn_rib.specs.Updates.{prefixes_of};
 ghost use Rattle.cn_wire.specs.Writing.{fits};
 
@@ -200,35 +200,64 @@ pub fn listed(
 
 // ---- after a decision
 
-// What these sessions owe for a prefix, once their sender holds a choice, is put in where it isn't.
-fn add_decided(
+// What each of the sessions at these places owes for a prefix, where this is held for it.
+fn dues(
+    alloc: Global,
     net: &Net,
     sessions: &[Session],
-    lists: &mut Vec<Owed>,
     start: usize,
     end: usize,
     prefix: &Prefix,
     held: Option<&Choice>,
-) -> Result<(), AllocError>
+) -> Result<Vec<Due>, AllocError>
     requires inside { end ≤ length sessions.now }
-    requires many { length lists.old.items ≡ length sessions.now }
-    ensures added { OnOk result
-        (AreAdded net.now (option_copied held.entry) prefix.now sessions.now start end
-        lists.old.items lists.new.items) }
-    ensures some { AreSomeAdded net.now (option_copied held.entry) prefix.now sessions.now start end
-        lists.old.items lists.new.items }
-    ensures elsewhere { AreElsewhere start end lists.old.items lists.new.items }
+    ensures dues { IfOk result (λ dues.
+        AreDues net.now (option_copied held.entry) prefix.now sessions.now start end dues.items) }
 {
+    let mut dues = Vec::with_capacity(alloc, end.saturating_sub(start))?;
     for at in start..end {
         let session = &sessions[at];
         let sent = session.adj_rib_out.get(prefix);
-        let due = due_with(net, session.from, session.to, prefix, sent, held);
-        lists[at].add(prefix, due)?;
+        dues.push(due_with(net, session.from, session.to, prefix, sent, held))?;
+    }
+    Ok(dues)
+}
+
+// What these sessions owe for a prefix is put into the lists in which it isn't.
+fn add_dues(
+    lists: &mut Vec<Owed>,
+    dues: &[Due],
+    start: usize,
+    end: usize,
+    prefix: &Prefix,
+) -> Result<(), AllocError>
+    requires inside { end ≤ length lists.old.items }
+    requires many { end - start ≤ length dues.now }
+    ensures added { OnOk result
+        (AreAdded dues.now prefix.now start end lists.old.items lists.new.items) }
+    ensures some { AreSomeAdded dues.now prefix.now start end lists.old.items lists.new.items }
+    ensures elsewhere { AreElsewhere start end lists.old.items lists.new.items }
+{
+    for at in start..end {
+        lists[at].add(prefix, dues[at - start])?;
     }
     Ok(())
 }
 
-// A prefix is taken out of the lists of these sessions in which it doesn't belong.
+// A prefix is taken out of the lists in which it doesn't belong, by what these sessions owe.
+fn keep_dues(lists: &mut Vec<Owed>, dues: &[Due], start: usize, end: usize, prefix: &Prefix)
+    requires inside { end ≤ length lists.old.items }
+    requires many { end - start ≤ length dues.now }
+    ensures kept { AreKept dues.now prefix.now start end lists.old.items lists.new.items }
+    ensures elsewhere { AreElsewhere start end lists.old.items lists.new.items }
+{
+    for at in start..end {
+        lists[at].keep(prefix, dues[at - start]);
+    }
+}
+
+// A prefix is taken out of the lists of these sessions in which it doesn't belong. What they owe is
+// found anew: a decision that failed holds no choice, so what would be owed with it says nothing.
 fn keep_due(
     net: &Net,
     sessions: &[Session],
@@ -251,8 +280,10 @@ fn keep_due(
 }
 
 /// A device holds a choice for a prefix, and its sessions, which stand at these places, have what
-/// they owe then. All memory is taken before anything is taken out, and given back in the end.
+/// they owe then, which is found once. All memory is taken before anything is taken out, and what a
+/// failure leaves is taken back.
 pub fn decide(
+    alloc: Global,
     net: &Net,
     sessions: &[Session],
     lists: &mut Vec<Owed>,
@@ -271,7 +302,8 @@ pub fn decide(
     ensures elsewhere { AreElsewhere start end lists.old.items lists.new.items }
 {
     let held = choice.as_ref();
-    if let Err(no_memory) = add_decided(net, sessions, lists, start, end, prefix, held) {
+    let dues = dues(alloc, net, sessions, start, end, prefix, held)?;
+    if let Err(no_memory) = add_dues(lists, &dues, start, end, prefix) {
         keep_due(net, sessions, &rib.loc_rib, lists, start, end, prefix);
         return Err(no_memory);
     }
@@ -279,7 +311,7 @@ pub fn decide(
         keep_due(net, sessions, &rib.loc_rib, lists, start, end, prefix);
         return Err(no_memory);
     }
-    keep_due(net, sessions, &rib.loc_rib, lists, start, end, prefix);
+    keep_dues(lists, &dues, start, end, prefix);
     Ok(())
 }
 
