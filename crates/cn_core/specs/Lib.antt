@@ -17,3 +17,5 @@ pub mod Codes
 pub mod OwedLists
 pub mod Play
 pub mod PlayLaws
+pub mod Stored
+pub mod StoredCode

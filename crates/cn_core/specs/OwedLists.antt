@@ -1,6 +1,6 @@
 -- How what a session owes is kept: the prefixes that it is to withdraw and those that it is to
 -- announce. No public contract speaks of it.
-use Rattle.std.specs.Prelude.{◌≡◌, ◌⊎◌, ℕ, ◌+◌, ◌<◌, ◌≤◌, ◌^◌, Bool, true, false, List, length, map, nat_lt, option_map, Option, Some, None, slice_index_or}
+use Rattle.std.specs.Prelude.{◌≡◌, ◌⊎◌, ℕ, ◌+◌, ◌-◌, ◌<◌, ◌≤◌, ◌^◌, Bool, true, false, List, length, map, nat_lt, option_map, Option, Some, None, slice_index_or}
 use Rattle.std.specs.List.{fold}
 use Rattle.std.specs.FinMap as fin
 use Rattle.cn_base.specs.Cidr.{Cidr, same_prefix}
@@ -117,20 +117,37 @@ pub record AreElsewhere (start end : ℕ) (old new : List Owed) : Type 0 where
   pub same : (k : ℕ) (y : Owed) → (k < start) ⊎ (end ≤ k)
       → slice_index_or new k y ≡ slice_index_or old k y
 
--- what is owed for p, where this is held, was put in at these places
-pub record AreAdded (net : Network) (held : Option Choice) (p : Cidr) (xs : List SessionState)
-    (start end : ℕ) (old new : List Owed) : Type 0 where
-  pub each : (k : ℕ) (x : SessionState) (y : Owed) → start ≤ k → k < end
-      → slice_index_or new k y
-      ≡ with_due (slice_index_or old k y) p (due_over net held p (slice_index_or xs k x))
+-- what is owed at a place, where these dues are those of the places from `start` on
+abbrev pub due_at : List Due → ℕ → ℕ → Due
+due_at dues start k = slice_index_or dues (k - start) Nothing
 
--- it was put in at some of these places
-pub record AreSomeAdded (net : Network) (held : Option Choice) (p : Cidr) (xs : List SessionState)
-    (start end : ℕ) (old new : List Owed) : Type 0 where
-  pub each : (k : ℕ) (x : SessionState) (y : Owed) → start ≤ k → k < end
+-- these are what the sessions at the places from `start` up to `end` owe for p, where this is held
+pub record AreDues (net : Network) (held : Option Choice) (p : Cidr) (xs : List SessionState)
+    (start end : ℕ) (dues : List Due) : Type 0 where
+  pub many : end - start ≤ length dues
+  pub each : (k : ℕ) (x : SessionState) → start ≤ k → k < end
+      → due_at dues start k ≡ due_over net held p (slice_index_or xs k x)
+
+-- at these places the new lists are made by f of the old ones and of what is owed
+pub record AreMade (f : Owed → Due → Owed) (dues : List Due) (start end : ℕ)
+    (old new : List Owed) : Type 0 where
+  pub each : (k : ℕ) (y : Owed) → start ≤ k → k < end
+      → slice_index_or new k y ≡ f (slice_index_or old k y) (due_at dues start k)
+
+-- p was put in at these places where it is owed
+abbrev pub AreAdded : List Due → Cidr → ℕ → ℕ → List Owed → List Owed → Type 0
+AreAdded dues p start end old new = AreMade (λ y d. with_due y p d) dues start end old new
+
+-- p was taken out at these places where it doesn't belong
+abbrev pub AreKept : List Due → Cidr → ℕ → ℕ → List Owed → List Owed → Type 0
+AreKept dues p start end old new = AreMade (λ y d. only_due y p d) dues start end old new
+
+-- p was put in at some of these places where it is owed
+pub record AreSomeAdded (dues : List Due) (p : Cidr) (start end : ℕ) (old new : List Owed) :
+    Type 0 where
+  pub each : (k : ℕ) (y : Owed) → start ≤ k → k < end
       → (slice_index_or new k y ≡ slice_index_or old k y)
-      ⊎ (slice_index_or new k y
-      ≡ with_due (slice_index_or old k y) p (due_over net held p (slice_index_or xs k x)))
+      ⊎ (slice_index_or new k y ≡ with_due (slice_index_or old k y) p (due_at dues start k))
 
 -- the prefixes of a message are in no list
 abbrev pub without_all : Owed → List Cidr → Owed

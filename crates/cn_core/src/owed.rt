@@ -1,6 +1,6 @@
 //! What a session owes (RFC 4271, 9.2).
 
-ghost use Rattle.std.specs.Prelude.{◌≡◌, ◌⊎◌, ℕ, ◌==◌, ◌&&◌, ◌<◌, ◌≤◌, ◌^◌, IfOk, OnErr, OnOk, None, length, map, option_copied, option_map, slice_index, slice_index_or, true};
+ghost use Rattle.std.specs.Prelude.{◌≡◌, ◌⊎◌, ℕ, ◌-◌, ◌==◌, ◌&&◌, ◌<◌, ◌≤◌, ◌^◌, IfOk, OnErr, OnOk, None, length, map, option_copied, option_map, slice_index, slice_index_or, true};
 ghost use Rattle.std.specs.FinMap as fin;
 ghost use Rattle.cn_core.specs.declared.owed.Owed.{Owed as Listed};
 ghost use Rattle.cn_core.specs.Owed.{offered_attributes, unless_sent};
@@ -8,7 +8,7 @@ ghost use Rattle.cn_core.specs.Machine.{put_out};
 ghost use Rattle.cn_core.specs.Stored.{IsSessionUnder, best_decided, choice_under, held_under, session_under};
 ghost use Rattle.cn_pool.specs.Pool.{Extends};
 ghost use Rattle.cn_rib.specs.Interned.{attributes_under};
-ghost use Rattle.cn_core.specs.OwedLists.{AreAdded, AreElsewhere, AreListedBut, AreListedFrom, AreSomeAdded, IsListed, due_of, count_of, empty_lists, only_due, owed_over, with_all_due, with_due, without_all};
+ghost use Rattle.cn_core.specs.OwedLists.{AreAdded, AreDues, AreElsewhere, AreKept, AreListedBut, AreListedFrom, AreSomeAdded, IsListed, due_of, count_of, empty_lists, only_due, owed_over, with_all_due, with_due, without_all};
 ghost use Rattle.cn_rib.specs.Updates.{prefixes_of};
 ghost use Rattle.cn_wire.specs.Writing.{fits};
 
@@ -231,8 +231,8 @@ fn dues(
     prefix: &Prefix,
     held: Option<&Best>,
 ) -> Result<Vec<Due>, AllocError>
-    requires { end ≤ length sessions.now }
-    ensures { IfOk result (λ dues. AreDues net.now
+    requires inside { end ≤ length sessions.now }
+    ensures dues { IfOk result (λ dues. AreDues net.now
         (option_map (choice_under pool.now) (option_copied held.entry)) prefix.now
         (map (session_under pool.now) sessions.now) start end dues.items) }
 {
@@ -252,7 +252,105 @@ fn dues(
     }
     Ok(dues)
 }
-@@@REST@@@
+
+// What these sessions owe for a prefix is put into the lists in which it isn't.
+fn add_dues(
+    lists: &mut Vec<Owed>,
+    dues: &[Due],
+    start: usize,
+    end: usize,
+    prefix: &Prefix,
+) -> Result<(), AllocError>
+    requires inside { end ≤ length lists.old.items }
+    requires many { end - start ≤ length dues.now }
+    ensures added { OnOk result
+        (AreAdded dues.now prefix.now start end lists.old.items lists.new.items) }
+    ensures some { AreSomeAdded dues.now prefix.now start end lists.old.items lists.new.items }
+    ensures elsewhere { AreElsewhere start end lists.old.items lists.new.items }
+{
+    for at in start..end {
+        lists[at].add(prefix, dues[at - start])?;
+    }
+    Ok(())
+}
+
+// A prefix is taken out of the lists in which it doesn't belong, by what these sessions owe.
+fn keep_dues(lists: &mut Vec<Owed>, dues: &[Due], start: usize, end: usize, prefix: &Prefix)
+    requires inside { end ≤ length lists.old.items }
+    requires many { end - start ≤ length dues.now }
+    ensures kept { AreKept dues.now prefix.now start end lists.old.items lists.new.items }
+    ensures elsewhere { AreElsewhere start end lists.old.items lists.new.items }
+{
+    for at in start..end {
+        lists[at].keep(prefix, dues[at - start]);
+    }
+}
+
+// A prefix is taken out of the lists of these sessions in which it doesn't belong. What they owe is
+// found anew: a decision that failed holds no choice, so what would be owed with it says nothing.
+fn keep_due(
+    net: &Net,
+    pool: &Pool,
+    sessions: &[Session],
+    best: &PrefixMap<Best>,
+    lists: &mut Vec<Owed>,
+    start: usize,
+    end: usize,
+    prefix: &Prefix,
+)
+    requires inside { end ≤ length sessions.now }
+    requires many { length lists.old.items ≡ length sessions.now }
+    requires but { AreListedBut net.now (held_under pool.now best.now) prefix.now
+        (map (session_under pool.now) sessions.now) start end lists.old.items }
+    ensures listed { AreListedFrom net.now (held_under pool.now best.now)
+        (map (session_under pool.now) sessions.now) start end lists.new.items }
+    ensures elsewhere { AreElsewhere start end lists.old.items lists.new.items }
+{
+    for at in start..end {
+        let due = due_for(net, pool, &sessions[at], best, prefix);
+        lists[at].keep(prefix, due);
+    }
+}
+
+/// A device holds a choice for a prefix, and its sessions, which stand at these places, have what
+/// they owe then, which is found once. All memory is taken before anything is taken out, and what a
+/// failure leaves is taken back.
+pub fn decide(
+    alloc: Global,
+    net: &Net,
+    pool: &Pool,
+    sessions: &[Session],
+    lists: &mut Vec<Owed>,
+    start: usize,
+    end: usize,
+    rib: &mut Rib,
+    prefix: &Prefix,
+    choice: Option<Best>,
+) -> Result<(), AllocError>
+    requires inside { end ≤ length sessions.now }
+    requires many { length lists.old.items ≡ length sessions.now }
+    requires listed { AreListedFrom net.now (held_under pool.now rib.old.loc_rib)
+        (map (session_under pool.now) sessions.now) start end lists.old.items }
+    ensures ok { OnOk result (rib.new ≡ best_decided rib.old prefix.now choice) }
+    ensures err { OnErr result (rib.new ≡ rib.old) }
+    ensures listed { AreListedFrom net.now (held_under pool.now rib.new.loc_rib)
+        (map (session_under pool.now) sessions.now) start end lists.new.items }
+    ensures elsewhere { AreElsewhere start end lists.old.items lists.new.items }
+{
+    let held = choice.as_ref();
+    let dues = dues(alloc, net, pool, sessions, start, end, prefix, held)?;
+    if let Err(no_memory) = add_dues(lists, &dues, start, end, prefix) {
+        keep_due(net, pool, sessions, &rib.loc_rib, lists, start, end, prefix);
+        return Err(no_memory);
+    }
+    if let Err(no_memory) = rib.decide(prefix, choice) {
+        keep_due(net, pool, sessions, &rib.loc_rib, lists, start, end, prefix);
+        return Err(no_memory);
+    }
+    keep_dues(lists, &dues, start, end, prefix);
+    Ok(())
+}
+
 /// How much each of these sessions owes, which stand at these places, is counted anew.
 pub fn count(tally: &mut Tally, lists: &[Owed], start: usize, end: usize)
     requires inside { end ≤ length lists.now }

@@ -1,36 +1,58 @@
 use Rattle.std.proofs.Common.{◌≡◌, sym, ap, ◌∙◌, subst}
 use Rattle.std.specs.Prelude.{option_copied}
 use Rattle.cn_rib.specs.PrefixMaps.{put_at}
-use Rattle.cn_core.specs.OwedLists.{AreListedBut}
+use Rattle.cn_core.specs.OwedLists.{AreDues, AreKept, AreListedBut, AreListedFrom}
 use Rattle.cn_core.specs.State.{RibState}
-use Rattle.cn_core.proofs.Lists.{but-added, but-some_added}
+use Rattle.cn_core.proofs.Lists.{but-added, but-some_added, listed-kept}
 use Rattle.cn_core.proofs.owed.decide.Goals as goal
 
 pub keep_due-requires-clause-but : goal.keep_due-requires-clause-but
 keep_due-requires-clause-but c =
+    let held = option_copied c.as_ref-held.result in
+    let owe =
+    subst (AreDues c.args.net.now held c.args.prefix.now c.args.sessions.now c.args.start
+    c.args.end) (sym c.deref.ensures.value) c.in_ok-dues.ensures.dues in
     subst (λ (x : RibState). AreListedBut c.args.net.now x.loc_rib c.args.prefix.now
-    c.args.sessions.now c.args.start c.args.end c.add_decided.new.lists.items) (sym c.rib.view_is)
-    (but-some_added c.args.net.now c.args.rib.now.loc_rib (option_copied c.as_ref-held.result)
-    c.args.prefix.now c.args.sessions.now c.args.start c.args.end c.args.lists.now.items
-    c.add_decided.new.lists.items c.requires.listed c.add_decided.ensures.some)
+    c.args.sessions.now c.args.start c.args.end c.add_dues.new.lists.items) (sym c.rib.view_is)
+    (but-some_added c.args.net.now c.args.rib.now.loc_rib held c.args.prefix.now
+    c.args.sessions.now c.args.start c.args.end c.deref.result.now owe c.args.lists.now.items
+    c.add_dues.new.lists.items c.requires.listed c.add_dues.ensures.some)
 
 pub keep_due-requires-in-Err-decide-clause-but : goal.keep_due-requires-in-Err-decide-clause-but
 keep_due-requires-in-Err-decide-clause-but c =
+    let held = option_copied c.as_ref-held.result in
+    let owe =
+    subst (AreDues c.args.net.now held c.args.prefix.now c.args.sessions.now c.args.start
+    c.args.end) (sym c.deref.ensures.value) c.in_ok-dues.ensures.dues in
     subst (λ (x : RibState). AreListedBut c.args.net.now x.loc_rib c.args.prefix.now
-    c.args.sessions.now c.args.start c.args.end c.add_decided.new.lists.items)
+    c.args.sessions.now c.args.start c.args.end c.add_dues.new.lists.items)
     (sym (c.rib-2.view_is ∙ c.in-Err-decide.ensures.err))
-    (but-some_added c.args.net.now c.args.rib.now.loc_rib (option_copied c.as_ref-held.result)
-    c.args.prefix.now c.args.sessions.now c.args.start c.args.end c.args.lists.now.items
-    c.add_decided.new.lists.items c.requires.listed c.add_decided.ensures.some)
+    (but-some_added c.args.net.now c.args.rib.now.loc_rib held c.args.prefix.now
+    c.args.sessions.now c.args.start c.args.end c.deref.result.now owe c.args.lists.now.items
+    c.add_dues.new.lists.items c.requires.listed c.add_dues.ensures.some)
 
-pub keep_due-requires-2-clause-but : goal.keep_due-requires-2-clause-but
-keep_due-requires-2-clause-but c =
-    let held : option_copied c.as_ref-held.result ≡ c.args.choice = c.as_ref-held.ensures.value in
-    let best =
-    ap (λ (x : RibState). x.loc_rib) (c.rib-2.view_is ∙ c.in_default-decide.ensures.ok)
-    ∙ ap (put_at c.args.rib.now.loc_rib c.args.prefix.now) (sym held) in
-    subst (λ b. AreListedBut c.args.net.now b c.args.prefix.now c.args.sessions.now
-    c.args.start c.args.end c.add_decided.new.lists.items) (sym best)
-    (but-added c.args.net.now c.args.rib.now.loc_rib (option_copied c.as_ref-held.result)
-    c.args.prefix.now c.args.sessions.now c.args.start c.args.end c.args.lists.now.items
-    c.add_decided.new.lists.items c.requires.listed c.in_default.ensures.added)
+pub returns-clause-listed : goal.returns-clause-listed
+returns-clause-listed c =
+    let net = c.args.net.now in
+    let p = c.args.prefix.now in
+    let xs = c.args.sessions.now in
+    let start = c.args.start in
+    let end = c.args.end in
+    let dues = c.deref.result.now in
+    let best = c.args.rib.now.loc_rib in
+    let held = option_copied c.as_ref-held.result in
+    let mid = c.add_dues.new.lists.items in
+    let new = c.keep_dues.new.lists.items in
+    let owe =
+    subst (AreDues net held p xs start end) (sym c.deref.ensures.value)
+    c.in_ok-dues.ensures.dues in
+    let kept =
+    subst (λ ds. AreKept ds p start end mid new)
+    (c.deref-2.ensures.value ∙ sym c.deref.ensures.value) c.keep_dues.ensures.kept in
+    let loc_rib =
+    ap (λ (x : RibState). x.loc_rib) c.in_default-decide.ensures.ok
+    ∙ ap (put_at best p) (sym c.as_ref-held.ensures.value) in
+    subst (λ b. AreListedFrom net b xs start end new) (sym loc_rib)
+    (listed-kept net best held p xs start end dues owe mid new
+    (but-added net best held p xs start end dues owe c.args.lists.now.items mid
+    c.requires.listed c.in_default.ensures.added) kept)
