@@ -42,3 +42,4 @@ pub mod AnswersThere
 pub mod Listed
 pub mod Composed
 mod Paths
+pub mod Under
