@@ -1,6 +1,6 @@
 -- What the engine keeps is right after each event, of the state as it lies in memory.
 use Rattle.std.proofs.Common.{◌≡◌, ℕ, ◌<◌, List, [], length, get_or, map, set, refl, sym, ap, ◌∙◌, subst, arith}
-use Rattle.std.specs.Prelude.{All, Err, Ok, OnErr, Result}
+use Rattle.std.specs.Prelude.{All, Err, Ok, OnErr, Option, Result, option_map}
 use Rattle.std.specs.FinMap as fin
 use Rattle.std.proofs.lemmas.List.{get_or-map, length-map, map-set, set-get_or}
 use Rattle.std.proofs.lemmas.List.Elements.{All-set}
@@ -8,7 +8,6 @@ use Rattle.std.proofs.lemmas.Option.{slice_get_within}
 use Rattle.cn_base.specs.Cidr.{Cidr}
 use Rattle.cn_base.specs.declared.ids.Asn.{Asn}
 use Rattle.cn_base.specs.declared.ids.DeviceId.{DeviceId}
-use Rattle.cn_base.specs.declared.route.Choice.{Choice}
 use Rattle.cn_pool.specs.Pool.{Extends}
 use Rattle.cn_pool.proofs.Pools.{extends_itself}
 use Rattle.cn_rib.specs.Updates.{prefixes_of}
@@ -27,9 +26,9 @@ use Rattle.cn_core.specs.State.{CoreState, RibState, SessionState, rib, session}
 use Rattle.cn_core.specs.Stored.{AreUnder, IsHeldUnder, IsKeptRight, IsSessionUnder, Stored, best_decided, choice_under, held_under, rib_under, session_under, stands_for}
 use Rattle.cn_core.specs.Whole.{ArePlacesOf, IsPlaceOf}
 use Rattle.cn_core.proofs.Changed.{decide_whole, receive_whole, send_whole}
-use Rattle.cn_core.proofs.Counted.{counted-decide, counted-receive, counted-send, dirty_of, laid_of, mail_of, recounted, right_of}
-use Rattle.cn_core.proofs.ListsKept.{listed_from, right-decide, right_received, right_sent, state_of}
-use Rattle.cn_core.proofs.Under.{are_ribs_longer, are_sessions_longer, rib_longer, ribs_longer, sessions_longer}
+use Rattle.cn_core.proofs.Counted.{counted-decide, counted-receive, counted-send, dirty_of, laid_of, mail_of, right_of}
+use Rattle.cn_core.proofs.ListsKept.{right-decide, right_received, right_sent, state_of}
+use Rattle.cn_core.proofs.Under.{are_ribs_longer, are_sessions_longer, decided_under, rib_longer, ribs_longer, sessions_longer}
 
 abbrev pub stored : Opening → List (List Asn) → List Session → List Rib → Stored
 stored nn pool xs ys = record { now = nn; pool = pool; sessions = xs; ribs = ys }
@@ -255,6 +254,62 @@ module _ (nn : Opening) (p0 p1 : List (List Asn)) (xs : List Session) (ys : List
   inside_ribs b lt =
       subst (λ n. b < n)
       (sym (ap (λ (t : CoreState). length t.ribs) v) ∙ length-map ys (rib_under p0)) lt
+
+-- ---- a decision
+
+module _ (nn : Opening) (pool : List (List Asn)) (xs : List Session) (ys : List Rib) where
+  pub stands-rib : (b : ℕ) (y : Rib)
+      → stands_for (stored nn pool xs (set ys b y))
+      ≡ state_of nn (map (session_under pool) xs)
+      (set (map (rib_under pool) ys) b (rib_under pool y))
+  stands-rib b y = λ j. record {
+    now = nn;
+    sessions = map (session_under pool) xs;
+    ribs = map-set (rib_under pool) ys b y j;
+  }
+
+  pub stands-decided : (s : CoreState) (v : stands_for (stored nn pool xs ys) ≡ s) (d : DeviceId)
+      (p : Cidr) (y ny : Rib) (o : Option Best) → d.0 < length s.ribs → d.0 < length ys
+      → y ≡ get_or ys d.0 y → ny ≡ best_decided y p o
+      → stands_for (stored nn pool xs (set ys d.0 ny))
+      ≡ with_rib s d (decided (rib s d) p (option_map (choice_under pool) o))
+  stands-decided s v d p y ny o range within read made =
+      stands-rib d.0 ny
+      ∙ decide_whole nn (map (session_under pool) xs) (map (rib_under pool) ys) s v d p
+      (rib_under pool y) (rib_under pool ny) (option_map (choice_under pool) o) range
+      (read-under (rib_under pool) ys d.0 y within read)
+      (ap (rib_under pool) made ∙ decided_under pool y p o)
+
+  pub kept-decided : (index : List SessionEnds) (os : List Owed) (mail owed dirty : List ℕ)
+      → IsKeptRight (stored nn pool xs ys) index os mail owed dirty
+      → (d : DeviceId) (start end : ℕ) → ArePlacesOf d (map (session_under pool) xs) start end
+      → (ny : Rib) (new : List Owed) (owed' dirty' : List ℕ) → d.0 < length ys
+      → AreListedFrom nn.net (held_under pool ny.loc_rib) (map (session_under pool) xs) start end new
+      → AreElsewhere start end os new → owed' ≡ map count_of new
+      → dirty' ≡ set dirty d.0 (fin.len ny.dirty) → IsHeldUnder pool ny.loc_rib
+      → IsKeptRight (stored nn pool xs (set ys d.0 ny)) index new mail owed' dirty'
+  kept-decided index os mail owed dirty kept d start end places ny new owed' dirty' within from
+      elsewhere owes dirties held =
+      let ss = map (session_under pool) xs in
+      let rs = map (rib_under pool) ys in
+      let within' : d.0 < length rs =
+      subst (λ n. d.0 < n) (sym (length-map ys (rib_under pool))) within in
+      let made = state_of nn ss (set rs d.0 (rib_under pool ny)) in record {
+        right =
+            subst (λ s. IsRight s index new mail owed' dirty') (sym (stands-rib d.0 ny))
+            (right_of made index new mail owed' dirty'
+            (right-decide nn ss rs index os
+            (laid_of (state_of nn ss rs) index os mail owed dirty kept.right) d start end places
+            (rib_under pool ny) new within' from elsewhere)
+            (subst (λ ns. AreCounted made new mail owed' ns) (sym dirties)
+            (counted-decide nn ss rs os mail owed dirty kept.right.counted d.0 (rib_under pool ny)
+            new owed' owes)));
+        under = record {
+          empty = kept.under.empty;
+          sessions = kept.under.sessions;
+          ribs = All-set (λ z. IsHeldUnder pool z.loc_rib) ys d.0 ny held kept.under.ribs;
+        };
+      }
 
 -- ---- the places of the counts
 

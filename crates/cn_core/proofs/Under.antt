@@ -1,6 +1,6 @@
 -- What ids stand for under a pool, and under a longer one.
-use Rattle.std.proofs.Common.{◌≡◌, ℕ, ◌<◌, ◌≤◌, List, [], ◌∷◌, length, get_or, map, set, Option, Some, None, refl, sym, ap, ◌∙◌, subst, arith}
-use Rattle.std.specs.Prelude.{All, option_map}
+use Rattle.std.proofs.Common.{◌≡◌, ℕ, ◌<◌, ◌≤◌, Bool, true, false, cond, List, [], ◌∷◌, length, get_or, map, set, Option, Some, None, refl, sym, ap, ◌∙◌, subst, arith}
+use Rattle.std.specs.Prelude.{All, Err, IfSome, Ok, OnErr, OnOk, Result, option_map}
 use Rattle.std.specs.FinMap as fin
 use Rattle.std.proofs.lemmas.List.{length-map, length-set, map-set}
 use Rattle.std.proofs.lemmas.List.Elements.{All-cons, All-head, All-nil, All-tail}
@@ -106,3 +106,33 @@ module _ (old new : List (List Asn)) (more : Extends old new) where
 
 pub no_best_under : (pool : List (List Asn)) → IsHeldUnder pool fin.empty
 no_best_under pool = record { each = λ p b e. absurd (none-some b (sym (get_empty p) ∙ e)) }
+
+-- after a decision for a route under the pool, or none, what is held is under it
+pub held_decided : (pool : List (List Asn)) (y : Rib) (p : Cidr) (o : Option Best)
+    → IsHeldUnder pool y.loc_rib → IfSome o (λ b. b.path.0 < length pool)
+    → IsHeldUnder pool (best_decided y p o).loc_rib
+held_decided pool y p o is within = record {
+  each = λ q b e.
+      either (same_prefix q p) o (fin.get y.loc_rib q) b within (is.each q)
+      (sym (get-put_at y.loc_rib p o q) ∙ e);
+}
+  where
+    some_is : (x b : Best) → Some x ≡ Some b → x.path.0 < length pool → b.path.0 < length pool
+    some_is x b e lt =
+        subst (λ (z : Option Best). IfSome z (λ c. c.path.0 < length pool)) e lt
+
+    either : (t : Bool) (x z : Option Best) (b : Best) → IfSome x (λ c. c.path.0 < length pool)
+        → ((c : Best) → z ≡ Some c → c.path.0 < length pool) → cond t x z ≡ Some b
+        → b.path.0 < length pool
+    either true None z b lt rest e = absurd (none-some b e)
+    either true (Some x) z b lt rest e = some_is x b e lt
+    either false x z b lt rest e = rest b e
+
+pub held_after : {T E : Type 0} (pool : List (List Asn)) (r : Result T E) (y ny : Rib) (p : Cidr)
+    (o : Option Best)
+    → IsHeldUnder pool y.loc_rib → IfSome o (λ b. b.path.0 < length pool)
+    → OnOk r (ny ≡ best_decided y p o) → OnErr r (ny ≡ y) → IsHeldUnder pool ny.loc_rib
+held_after pool (Ok x) y ny p o is within made kept =
+    subst (λ (z : Rib). IsHeldUnder pool z.loc_rib) (sym made) (held_decided pool y p o is within)
+held_after pool (Err x) y ny p o is within made kept =
+    subst (λ (z : Rib). IsHeldUnder pool z.loc_rib) (sym kept) is
