@@ -1,4 +1,4 @@
-use Rattle.std.proofs.Common.{List, Some, sym, ap, ◌∙◌}
+use Rattle.std.proofs.Common.{List, sym, ap, ◌∙◌}
 use Rattle.std.specs.Prelude.{option_copied, option_map}
 use Rattle.cn_base.specs.declared.ids.Asn.{Asn}
 use Rattle.cn_net.specs.Exchange.{offer}

@@ -1,4 +1,4 @@
-use Rattle.std.proofs.Common.{◌≡◌, map, sym, ap, ◌∙◌, subst}
+use Rattle.std.proofs.Common.{map, sym, ap, ◌∙◌, subst}
 use Rattle.std.specs.Prelude.{option_copied, option_map}
 use Rattle.cn_rib.specs.PrefixMaps.{put_at}
 use Rattle.cn_rib.proofs.Mapped.{put_at-mapped}

@@ -1,6 +1,5 @@
 use Rattle.std.proofs.Common.{sym, ap, ◌∙◌}
-use Rattle.std.specs.Prelude.{option_copied, option_map}
-use Rattle.std.specs.FinMap as fin
+use Rattle.std.specs.Prelude.{option_map}
 use Rattle.cn_rib.specs.Interned.{attributes_under}
 use Rattle.cn_core.specs.Owed.{offered_attributes, unless_sent}
 use Rattle.cn_core.specs.OwedLists.{due_of}

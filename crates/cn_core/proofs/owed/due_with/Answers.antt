@@ -4,7 +4,6 @@ use Rattle.std.specs.Borrow.{Bor}
 use Rattle.cn_base.specs.declared.ids.Asn.{Asn}
 use Rattle.cn_net.specs.Exchange.{offer}
 use Rattle.cn_rib.specs.Interned.{attributes_under}
-use Rattle.cn_rib.specs.declared.interned.Interned.{Interned}
 use Rattle.cn_core.specs.declared.best.Best.{Best}
 use Rattle.cn_core.specs.Machine.{route_with}
 use Rattle.cn_core.specs.Owed.{offered_attributes, unless_sent}

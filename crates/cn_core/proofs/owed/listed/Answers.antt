@@ -1,5 +1,4 @@
-use Rattle.std.proofs.Common.{sym, ap, ◌∙◌, subst}
-use Rattle.std.specs.FinMap as fin
+use Rattle.std.proofs.Common.{sym, ◌∙◌, subst}
 use Rattle.cn_rib.specs.Interned.{attributes_under}
 use Rattle.cn_rib.proofs.Keyed.{keys_of_rows}
 use Rattle.cn_rib.proofs.Mapped.{keys-mapped}
