@@ -6,9 +6,11 @@ use Rattle.std.proofs.lemmas.Bool.{cases_lt}
 use Rattle.std.proofs.lemmas.List.{ext_get_or, get_or-map, length-map, length-set, map-set}
 use Rattle.cn_net.specs.Opening.{Opening}
 use Rattle.cn_net.specs.declared.sessions.SessionEnds.{SessionEnds}
+use Rattle.cn_rib.specs.PrefixSet as set
 use Rattle.cn_core.specs.declared.owed.Owed.{Owed}
+use Rattle.cn_core.specs.declared.session.Rib.{Rib}
 use Rattle.cn_core.specs.OwedLists.{AreCounted, AreElsewhere, IsRight, count_of, empty_lists}
-use Rattle.cn_core.specs.State.{CoreState, RibState, SessionState, empty_rib}
+use Rattle.cn_core.specs.State.{CoreState, RibState, SessionState}
 use Rattle.cn_core.proofs.ListsKept.{IsLaid, state_of}
 
 abbrev pub mail_of : SessionState → ℕ
@@ -92,18 +94,24 @@ counted_all lists counts many each =
     each k empty_lists inside ∙ sym (get_or-map count_of lists k empty_lists 0 inside))
 
 -- the dirty prefixes of the devices up to one are counted
-pub record AreDirtyCounted (ribs : List RibState) (at : ℕ) (counts : List ℕ) : Type 0 where
+pub record AreDirtyCounted (ribs : List Rib) (at : ℕ) (counts : List ℕ) : Type 0 where
   pub many : length counts ≡ length ribs
-  pub these : (k : ℕ) (y : RibState) → k < at → get_or counts k 0 ≡ dirty_of (get_or ribs k y)
+  pub these : (k : ℕ) (y : Rib) → k < at → get_or counts k 0 ≡ fin.len (get_or ribs k y).dirty
 
-pub dirty_counted : (ribs : List RibState) (at : ℕ) (counts : List ℕ)
-    → AreDirtyCounted ribs at counts → length ribs ≤ at → counts ≡ map dirty_of ribs
+pub dirty_counted : (ribs : List Rib) (at : ℕ) (counts : List ℕ)
+    → AreDirtyCounted ribs at counts → length ribs ≤ at
+    → counts ≡ map (λ y. fin.len y.dirty) ribs
 dirty_counted ribs at counts is all =
-    ext_get_or 0 counts (map dirty_of ribs) (is.many ∙ sym (length-map ribs dirty_of))
+    ext_get_or 0 counts (map count ribs) (is.many ∙ sym (length-map ribs count))
     (λ k lt.
     let inside : k < length ribs = omega (arith, lt, is.many) in
-    is.these k empty_rib (omega (arith, inside, all))
-    ∙ sym (get_or-map dirty_of ribs k empty_rib 0 inside))
+    is.these k none (omega (arith, inside, all)) ∙ sym (get_or-map count ribs k none 0 inside))
+  where
+    count : Rib → ℕ
+    count y = fin.len y.dirty
+
+    none : Rib
+    none = record { loc_rib = fin.empty; dirty = set.empty }
 
 -- what is laid in order and counted is right
 pub right_of : (s : CoreState) (index : List SessionEnds) (os : List Owed)

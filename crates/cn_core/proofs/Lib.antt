@@ -27,6 +27,7 @@ pub mod Tabled
 pub mod Wholes
 pub mod Logged
 mod Starting
+mod FirstHeld
 pub mod Pulls
 mod Rowing
 mod Speaking

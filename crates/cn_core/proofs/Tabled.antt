@@ -1,5 +1,5 @@
 -- The tables of a pull, and the rows from which they are made.
-use Rattle.std.proofs.Common.{◌≡◌, ℕ, ◌+◌, ◌<◌, true, false, cond, List, [], ◌∷◌, ◌++◌, length, get_or, take, map, Some, refl, sym, ap, ◌∙◌}
+use Rattle.std.proofs.Common.{◌≡◌, ℕ, ◌+◌, ◌<◌, true, false, cond, List, [], ◌∷◌, ◌++◌, length, get_or, take, map, Option, Some, refl, sym, ap, ◌∙◌}
 use Rattle.std.specs.Prelude.{option_map}
 use Rattle.std.specs.List.{find}
 use Rattle.std.specs.Ordering.{eq_by_cmp}
@@ -9,15 +9,20 @@ use Rattle.std.proofs.lemmas.List.{map-append, take_more}
 use Rattle.std.proofs.lemmas.List.Elements.{All-nil, All-push}
 use Rattle.cn_base.specs.Cidr.{Cidr, same_prefix}
 use Rattle.cn_base.specs.Table.{AscendsByPrefix, choice_for, prefix_cmp}
+use Rattle.cn_base.specs.declared.ids.Asn.{Asn}
 use Rattle.cn_base.specs.declared.ids.DeviceId.{DeviceId}
 use Rattle.cn_base.specs.declared.route.Choice.{Choice}
 use Rattle.cn_base.specs.declared.table.TableRow.{TableRow}
 use Rattle.cn_rib.specs.declared.prefix_map.Row.{Row}
+use Rattle.cn_rib.specs.PrefixMaps.{picked_entries}
 use Rattle.cn_rib.proofs.Keyed.{keys_of_rows, rows_ascend}
+use Rattle.cn_rib.proofs.PrefixMaps.{entries-picked}
 use Rattle.cn_rib.proofs.Prefixes.{same_flip, tied_is_same}
 use Rattle.cn_net.specs.Stable.{Assignment}
+use Rattle.cn_core.specs.declared.best.Best.{Best}
 use Rattle.cn_core.specs.declared.pull.DeviceTable.{DeviceTable}
 use Rattle.cn_core.specs.Rows.{table_row}
+use Rattle.cn_core.specs.Stored.{BestRoutes, choice_under, held_under}
 use Rattle.cn_core.specs.Tables.{AreTables, IsTableOf}
 
 choice_found : (rows : List TableRow) (p : Cidr)
@@ -53,6 +58,28 @@ module _ (m : FinMap prefix_cmp Choice) (rows : List (Row Choice))
   table_exact p =
       choice_found (map table_row rows) p ∙ ap (fin.find prefix_cmp p) (pairs_of rows ∙ is)
       ∙ sym (fin.get-entries m p)
+
+-- ---- the rows of what is held by ids
+
+-- a row with the choice that it stands for
+abbrev pub row_under : List (List Asn) → Row Best → Row Choice
+row_under pool r = record { prefix = r.prefix; value = choice_under pool r.value }
+
+pub pairs_under : (pool : List (List Asn)) (m : BestRoutes) (rows : List (Row Best))
+    → map {B = Cidr × Best} (λ r. (r.prefix, r.value)) rows ≡ fin.entries m
+    → map {B = Cidr × Choice} (λ r. (r.prefix, r.value)) (map (row_under pool) rows)
+    ≡ fin.entries (held_under pool m)
+pairs_under pool m rows is =
+    each rows ∙ ap (picked_entries g) is ∙ sym (entries-picked g m)
+  where
+    g : Best → Option Choice
+    g b = Some (choice_under pool b)
+
+    each : (rs : List (Row Best))
+        → map {B = Cidr × Choice} (λ r. (r.prefix, r.value)) (map (row_under pool) rs)
+        ≡ picked_entries g (map {B = Cidr × Best} (λ r. (r.prefix, r.value)) rs)
+    each [] = refl
+    each (r ∷ rs) = ap (λ es. (r.prefix, choice_under pool r.value) ∷ es) (each rs)
 
 -- ---- one table after another
 

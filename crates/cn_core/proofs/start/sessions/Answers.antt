@@ -3,16 +3,17 @@ use Rattle.std.specs.Prelude.{Some, slice_get}
 use Rattle.std.proofs.lemmas.List.{map-append, take_more}
 use Rattle.std.proofs.lemmas.Option.{get_or_from_slice_get, none-some, slice_get_cases}
 use Rattle.cn_net.specs.declared.sessions.SessionEnds.{SessionEnds}
-use Rattle.cn_core.specs.State.{SessionState, empty_session}
+use Rattle.cn_core.specs.declared.session.Session.{Session}
+use Rattle.cn_core.specs.Stored.{unsent}
 use Rattle.cn_core.proofs.start.sessions.Goals as goal
 use Rattle.cn_core.proofs.start.sessions.Goals.{in-Some+in_ok-session+in_ok-push, in_default}
 
-empty : SessionEnds → SessionState
-empty e = empty_session e.from e.to
+empty : SessionEnds → Session
+empty e = unsent e.from e.to
 
 -- the session of one more place
-more : (es : List SessionEnds) (i : ℕ) (e : SessionEnds) (old new : List SessionState)
-    (x : SessionState)
+more : (es : List SessionEnds) (i : ℕ) (e : SessionEnds) (old new : List Session)
+    (x : Session)
     → i < length es → slice_get es i ≡ Some e → old ≡ map empty (take i es) → x ≡ empty e
     → new ≡ old ++ x ∷ [] → new ≡ map empty (take (i + 1) es)
 more es i e old new x within at so is pushed =
@@ -34,7 +35,7 @@ unfolding empty
 loop-place-preserved c =
     elim c.match-ends.branch [
       | in-Some+in_ok-session+in_ok-push w ↦
-          ap (λ (v : Vec SessionState Global). v.items) w.sessions-is
+          ap (λ (v : Vec Session Global). v.items) w.sessions-is
           ∙ more c.args.index.now c.loop-place.place w.in-Some.ends c.loop-place.sessions.items
           w.push.new.self.items w.in_ok-session.field-0
           (omega (arith, c.loop-place-test.true, c.len-place-end.ensures)) (sym w.in-Some.ensures)
