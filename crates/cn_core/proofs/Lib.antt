@@ -45,3 +45,4 @@ pub mod Composed
 mod Paths
 pub mod Under
 pub mod StoredKept
+pub mod Receiving
