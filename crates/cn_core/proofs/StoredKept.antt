@@ -349,3 +349,33 @@ module _ (nn : Opening) (pool : List (List Asn)) (xs : List Session) (ys : List 
 pub on_err : {T E P : Type 0} (r : Result T E) → P → OnErr r P
 on_err (Ok x) p = tt
 on_err (Err e) p = p
+
+-- ---- what was read, of what the engine stands for
+
+module _ (nn : Opening) (pool : List (List Asn)) (xs : List Session) (ys : List Rib) (s : Stored)
+    (v : stored nn pool xs ys ≡ s) where
+  -- a session that was read, under the pool now
+  pub read-now : (i : ℕ) (x : Session) → i < length (stands_for s).sessions → x ≡ get_or xs i x
+      → session_under s.pool x ≡ get_or (stands_for s).sessions i (session_under s.pool x)
+  read-now i x inside read =
+      read-under (session_under s.pool) s.sessions i x
+      (subst (λ n. i < n) (length-map s.sessions (session_under s.pool)) inside)
+      (read ∙ ap (λ (t : Stored). get_or t.sessions i x) v)
+
+  -- and what a device holds
+  pub read_rib-now : (b : ℕ) (y : Rib) → b < length (stands_for s).ribs → y ≡ get_or ys b y
+      → rib_under s.pool y ≡ get_or (stands_for s).ribs b (rib_under s.pool y)
+  read_rib-now b y inside read =
+      read-under (rib_under s.pool) s.ribs b y
+      (subst (λ n. b < n) (length-map s.ribs (rib_under s.pool)) inside)
+      (read ∙ ap (λ (t : Stored). get_or t.ribs b y) v)
+
+  pub in_sessions : (i : ℕ) → i < length (stands_for s).sessions → i < length xs
+  in_sessions i inside =
+      subst (λ (t : Stored). i < length t.sessions) (sym v)
+      (subst (λ n. i < n) (length-map s.sessions (session_under s.pool)) inside)
+
+  pub in_ribs : (b : ℕ) → b < length (stands_for s).ribs → b < length ys
+  in_ribs b inside =
+      subst (λ (t : Stored). b < length t.ribs) (sym v)
+      (subst (λ n. b < n) (length-map s.ribs (rib_under s.pool)) inside)

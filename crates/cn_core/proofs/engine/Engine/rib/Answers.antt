@@ -1,20 +1,28 @@
-use Rattle.std.proofs.Common.{◌<◌, arith, length, subst, sym}
-use Rattle.cn_core.specs.State.{CoreState}
+use Rattle.std.proofs.Common.{arith, subst, ap, refl}
+use Rattle.cn_core.specs.Stored.{rib_under, stands_for}
 use Rattle.cn_core.specs.Whole.{IsWhole}
 use Rattle.cn_core.proofs.Changed.{device_within, read_rib}
+use Rattle.cn_core.proofs.StoredKept.{in_ribs, read_rib-now}
 use Rattle.cn_core.proofs.engine.Engine.rib.Goals as goal
 
 pub index-requires : goal.index-requires
 index-requires c =
-    let inside : c.args.device.0 < length c.self.inside.ribs.items =
-    subst (λ (s : CoreState). c.args.device.0 < length s.ribs) (sym c.self.view_is)
-    (device_within c.args.self.now c.args.device
-    (subst IsWhole c.self.view_is c.self.invariant.whole) c.requires) in
+    let in' = c.self.inside in
+    let s = c.args.self.now in
+    let whole = subst IsWhole (ap stands_for c.self.view_is) c.self.invariant.right.whole in
+    let inside =
+    in_ribs in'.certified in'.pool in'.sessions.items in'.ribs.items s c.self.view_is
+    c.args.device.0 (device_within (stands_for s) c.args.device whole c.requires) in
     omega (arith, inside)
 
 pub returns : goal.returns
 returns c =
-    let w = subst IsWhole c.self.view_is c.self.invariant.whole in
-    read_rib c.self.inside.certified c.self.inside.sessions.items c.self.inside.ribs.items
-    c.args.self.now c.self.view_is c.args.device c.index.result.now
-    (device_within c.args.self.now c.args.device w c.requires) c.index.ensures
+    let in' = c.self.inside in
+    let s = c.args.self.now in
+    let whole = subst IsWhole (ap stands_for c.self.view_is) c.self.invariant.right.whole in
+    let range = device_within (stands_for s) c.args.device whole c.requires in
+    let t = stands_for s in
+    read_rib t.now t.sessions t.ribs t refl c.args.device (rib_under s.pool c.index.result.now)
+    range
+    (read_rib-now in'.certified in'.pool in'.sessions.items in'.ribs.items s c.self.view_is
+    c.args.device.0 c.index.result.now range c.index.ensures)
