@@ -1,32 +1,36 @@
-use Rattle.std.proofs.Common.{◌≡◌, Some, get_or, sym, ap, ◌∙◌, length}
+use Rattle.std.proofs.Common.{◌≡◌, Some, get_or, length, map, sym, ap, ◌∙◌}
 use Rattle.std.specs.Prelude.{◌&&◌, nat_lt, is_some}
 use Rattle.std.specs.List.{find}
 use Rattle.cn_core.specs.Owed.{owes}
 use Rattle.cn_core.specs.State.{CoreState, SessionState, empty_session, is_session, session}
+use Rattle.cn_core.specs.Stored.{session_under, stands_for}
 use Rattle.cn_core.proofs.Changed.{can_send_found}
 use Rattle.cn_core.proofs.Places.{found_at, not_found}
+use Rattle.cn_core.proofs.StoredKept.{read-now}
 use Rattle.cn_core.proofs.engine.Engine.can_send.Goals as goal
 
 pub returns-then-owes : goal.returns-then-owes
 returns-then-owes c =
-    let s = c.args.self.now in
+    let in' = c.self.inside in
+    let s = stands_for c.args.self.now in
     let a = c.args.from in
     let b = c.args.to in
-    let x = c.index-session.result.now in
-    let read : x ≡ get_or s.sessions c.in-Some.at x =
-    c.index-session.ensures ∙ ap (λ
-    (t : CoreState). get_or t.sessions c.in-Some.at x) c.self.view_is in
+    let at = c.in-Some.at in
+    let x = session_under c.args.self.now.pool c.index-session.result.now in
+    let read : x ≡ get_or s.sessions at x =
+    read-now in'.certified in'.pool in'.sessions.items in'.ribs.items c.args.self.now
+    c.self.view_is at c.index-session.result.now c.in-Some.ensures.inside
+    c.index-session.ensures in
     let found : find (is_session a b) s.sessions ≡ Some x =
-    found_at a b s.sessions c.in-Some.at x c.in-Some.ensures ∙ ap Some (sym read) in
-    ap (λ l. nat_lt l 64) (c.len.ensures.length ∙ ap (λ
-    (y : SessionState). length y.mail) c.session.view_is)
+    found_at a b s.sessions at x c.in-Some.ensures ∙ ap Some (sym read) in
+    ap (λ l. nat_lt l 64) c.len.ensures.length
     ∙ ap (λ t. t && nat_lt (length x.mail) 64)
     (sym c.if-owes.true ∙ c.owes.ensures x ∙ ap (owes s) (sym read))
     ∙ can_send_found s a b x found
 
 pub returns-else-owes : goal.returns-else-owes
 returns-else-owes c =
-    let s = c.args.self.now in
+    let s = stands_for c.args.self.now in
     let a = c.args.from in
     let b = c.args.to in
     let x = get_or s.sessions c.in-Some.at (empty_session a b) in
@@ -38,7 +42,7 @@ returns-else-owes c =
 
 pub returns-in-None : goal.returns-in-None
 returns-in-None c =
-    let s = c.args.self.now in
+    let s = stands_for c.args.self.now in
     let a = c.args.from in
     let b = c.args.to in
     ap (λ o. is_some o && (owes s (session s a b) && nat_lt (length (session s a b).mail) 64))
