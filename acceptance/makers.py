@@ -15,6 +15,7 @@ import pathlib
 import runpy
 import sys
 import tempfile
+import tomllib
 
 ROOT = pathlib.Path(__file__).resolve().parent.parent
 sys.dont_write_bytecode = True
@@ -576,15 +577,102 @@ def rows():
             yield making, (tool, *row)
 
 
+def edits(tool, *changes):
+    """The files of a tool's lab, each text of which is replaced wherever it stands."""
+    files = edited(tool, "lab", "lab", "lab")
+    for name, old, new in changes:
+        if old not in files[name]:
+            raise AssertionError(f"{name} has no text {old!r}")
+        files[name] = files[name].replace(old, new)
+    return files
+
+
+def others():
+    """What has more than one edit, or other words: the files, the words, and what is wanted: the
+    status, the plan or nothing, and how standard error begins."""
+    frr, one = "plan-from-frr", 'must = ["a"]'
+    for tool in TOOLS:
+        yield tool, edits(tool), ["--emulate", "b"], 0, PLAN.replace(one, 'emulate = ["b"]'), ""
+        yield tool, edits(tool), ["--must", "b,a"], 0, PLAN.replace(one, 'must = ["b", "a"]'), ""
+        yield tool, edits(tool), ["--all"], 0, PLAN.replace(one, 'emulate = ["a", "b"]'), ""
+        layers = PLAN.replace("layer = 1", "layer = x").replace("layer = 2", "layer = 1")
+        yield tool, edits(tool), ["--racks", "b"], 0, layers.replace("layer = x", "layer = 2"), ""
+        yield tool, edits(tool), ["--racks", "c"], 3, "", "lab.clab.yml:1: a rack that is no node"
+        yield tool, edits(tool), ["--must", "c"], 3, "", "lab.clab.yml:1: a name that no node has"
+        yield tool, edits(tool), ["--oldest"], 2, "", "usage: "
+        absent = edits(tool, ("lab", "b.conf:", "c.conf:"))
+        yield tool, absent, [], 1, "", f"{tool}: c.conf: No such"
+        broken = edits(tool, ("lab", "  links:", " links:"))
+        yield tool, broken, [], 1, "", f"{tool}: lab.clab.yml is no YAML"
+        apart = edits(tool, ("lab", "    b:", "    c: {binds: [b.conf:BOUND]}\n    b:"))
+        apart["lab"] = apart["lab"].replace("BOUND", TOOLS[tool][1])
+        yield tool, apart, [], 3, "", "b.conf:1: the router id 10.9.0.2, which c has too: b\n"
+    eth1 = " neighbor eth1 interface remote-as external"
+    unnumbered = edits(
+        frr,
+        ("a.conf", " neighbor 10.0.0.1 remote-as 65002", eth1),
+        ("a.conf", "neighbor 10.0.0.1", "neighbor eth1"),
+        ("b.conf", "10.0.0.0 remote-as", "eth3 interface v6only remote-as"),
+    )
+    yield frr, unnumbered, [], 0, PLAN, ""
+    mixed = edits(
+        frr,
+        ("a.conf", " neighbor 10.0.0.1 remote-as 65002", eth1),
+        ("a.conf", "neighbor 10.0.0.1", "neighbor eth1"),
+    )
+    yield frr, mixed, [], 3, "", "a.conf:24: a session that b doesn't have with this address: "
+    passive = edits(
+        frr,
+        ("a.conf", "10.0.0.1 description up", "10.0.0.1 passive"),
+        ("b.conf", "exit\n", " neighbor 10.0.0.0 passive\nexit\n"),
+    )
+    yield frr, passive, [], 3, "", "a.conf:24: a session that no end begins: "
+    alone = edits(
+        frr,
+        ("a.conf", "  neighbor 10.0.0.1", "!"),
+        ("a.conf", " neighbor 10.0.0.1", "!"),
+        ("b.conf", " neighbor", "!"),
+    )
+    yield frr, alone, [], 3, "", "lab.clab.yml:16: a link without a session: a b\n"
+    oldest = edits(
+        frr,
+        ("a.conf", " bgp bestpath compare-routerid\n", ""),
+        ("a.conf", " neighbor 10.0.0.1 description up\n", " neighbor eth5 interface remote-as 7\n"
+         " no bgp ebgp-requires-policy\n"),
+    )
+    yield frr, oldest, [], 3, "", "a.conf:21: no bgp bestpath compare-routerid, without which the "
+    yield frr, oldest, ["--compare-routerid"], 3, "", "a.conf:24: a peer behind no link: "
+    daemons = edits(frr, ("lab", "- a.conf", "- daemons:/etc/frr/daemons\n        - a.conf"))
+    yield frr, daemons | {"daemons": "zebra=yes\nbgpd=no\n"}, [], 3, "", "daemons:1: bgpd isn't"
+    yield frr, daemons | {"daemons": "zebra=yes\nbgpd=yes\n"}, [], 0, PLAN, ""
+    split = edits(frr, ("lab", "- a.conf", "- zebra.conf:/etc/frr/zebra.conf\n        - a.conf"))
+    yield frr, split, [], 3, "", "lab.clab.yml:7: a file of FRR that isn't read: "
+
+
+def example():
+    """What is wrong with the plan of the lab in examples/, which is that of the five devices."""
+    status, stdout, stderr = run("plan-from-frr", str(ROOT / "examples/lab/five.clab.yml"))
+    with open(ROOT / "examples/q-emulated.toml", "rb") as file:
+        wanted = tomllib.load(file)
+    if (status, stderr) == (0, "") and tomllib.loads(stdout) == wanted:
+        return []
+    return [f"the lab of the examples ends with {status}", stdout, stderr]
+
+
 def main():
     try:
         import yaml  # noqa: F401
     except ImportError:
         print("makers.py: skipped, since there is no yaml; Debian's package python3-yaml has it")
         return 0
-    told = []
+    told = example()
     for judge, row in rows():
         told += judge(*row)
+    for tool, files, words, status, plan, error in others():
+        *found, said = made(tool, files, words)
+        if found != [status, plan] or not said.startswith(error) or (said and not error):
+            told += [f"{tool} {words} ends with {found[0]}", f"wanted {status} {error}"]
+            told += [found[1], said]
     print(*told, sep="\n", end="\n" * bool(told))
     return bool(told)
 
