@@ -43,13 +43,14 @@ def frr(plan, device, address):
     """The configuration of a device for FRR; `address` gives the one on which a device speaks."""
     name, asn = device["name"], device["asn"]
     lines = ["frr version 8.4.4", "frr defaults traditional", f"hostname {name}"]
-    neighbors, family = [], []
+    neighbors = [" neighbor COMMON peer-group", f" neighbor COMMON update-source {address(name)}"]
+    neighbors += [" neighbor COMMON ebgp-multihop 2", " neighbor COMMON timers connect 1"]
+    family = ["  maximum-paths 8"]
     for number, (other, up) in enumerate(linked(plan, name)):
         peer, said = next(it for it in plan["device"] if it["name"] == other), policy(device, other)
         front = f" neighbor {address(other)}"
-        neighbors += [f"{front} remote-as {peer['asn']}", f"{front} port {PORT}"]
-        neighbors += [f"{front} update-source {address(name)}", f"{front} ebgp-multihop 2"]
-        neighbors += [f"{front} timers connect 1"]
+        neighbors += [f"{front} remote-as {peer['asn']}", f"{front} peer-group COMMON"]
+        neighbors += [f"{front} port {PORT}"]
         # One end is enough to shut a link.
         neighbors += [] if up or name > other else [f"{front} shutdown"]
         for key, word in (("import", "in"), ("export", "out")):
@@ -70,20 +71,21 @@ def frr(plan, device, address):
         family.append(f"  network {prefix}" + f" route-map own{number}" * (origin != "igp"))
     lines += [f"router bgp {asn}", f" bgp router-id {device['id']}"]
     lines += [" no bgp ebgp-requires-policy", " no bgp network import-check"]
-    lines += [" bgp bestpath compare-routerid", " bgp allow-martian-nexthop", *neighbors, " !"]
+    lines += [" bgp bestpath compare-routerid", " bgp bestpath as-path multipath-relax"]
+    lines += [" bgp allow-martian-nexthop", *neighbors, " !"]
     lines += [" address-family ipv4 unicast", *family, " exit-address-family", "exit"]
     return "".join(line + "\n" for line in lines)
 
 
 def statements(entries):
-    """The statements of a filter of BIRD that does what these entries do, up to the last one."""
+    """The statements of a filter of BIRD that does what these entries do."""
     found = []
     for entry in entries:
-        permit, _, least, greatest = fixpoint.entry(entry)
-        found.append(
-            f"if net ~ [ {entry.split()[1]}{{{least},{greatest}}} ] "
-            f"then {'accept' if permit else 'reject'};"
-        )
+        permit, (_, length), least, greatest = fixpoint.entry(entry)
+        bounds = {(length, length): "", (length, 32): "+"}
+        bounds = bounds.get((least, greatest), f"{{{least},{greatest}}}")
+        word = "accept" if permit else "reject"
+        found.append(f"if net ~ [ {entry.split()[1]}{bounds} ] then {word};")
     return [*found, "reject;"]
 
 
@@ -95,21 +97,22 @@ def bird(plan, device, address):
     for prefix, origin in fixpoint.owns(device):
         said = "" if origin == "igp" else f" {{ bgp_origin = ORIGIN_{origin.upper()}; }}"
         lines.append(f"  route {prefix} blackhole{said};")
-    lines.append("}")
+    lines += ["}", f"define OWN = {asn};", "template bgp common {", "  multihop;", "  strict bind;"]
+    lines += [f"  local {address(name)} port {PORT} as OWN;", "  connect delay time 1;"]
+    lines += ["  connect retry time 1;", "  error wait time 1, 2;"]
+    lines += ["  ipv4 { import all; export all; };", "}"]
     for number, (other, up) in enumerate(linked(plan, name)):
         peer, said = next(it for it in plan["device"] if it["name"] == other), policy(device, other)
-        channel = {"import": "import all;", "export": "export all;"}
-        more = [f"bgp_path.prepend({asn});"] * said.get("prepend", 0)
+        channel = []
+        more = ["bgp_path.prepend(OWN);"] * said.get("prepend", 0)
         for key, first in (("import", []), ("export", more)):
             if first or key in said:
                 rest = statements(said[key]) if key in said else ["accept;"]
                 lines += [f"filter {key}{number} {{", *(f"  {it}" for it in first + rest), "}"]
-                channel[key] = f"{key} filter {key}{number};"
-        lines += [f"protocol bgp to{number} {{"]
-        lines += [f"  local {address(name)} port {PORT} as {asn};"]
+                channel.append(f"{key} filter {key}{number};")
+        lines += [f"protocol bgp to{number} from common {{"]
         lines += [f"  neighbor {address(other)} port {PORT} as {peer['asn']};"]
-        lines += ["  multihop;", "  strict bind;", "  connect delay time 1;"]
-        lines += ["  connect retry time 1;", "  error wait time 1, 2;"]
         lines += [] if up or name > other else ["  disabled;"]
-        lines += [f"  ipv4 {{ {channel['import']} {channel['export']} }};", "}"]
+        lines += [f"  ipv4 {{ {' '.join(channel)} }};"] if channel else []
+        lines += ["}"]
     return "".join(line + "\n" for line in lines)

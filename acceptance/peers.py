@@ -11,6 +11,7 @@ itself. Without --all there are few networks. What isn't installed is skipped wi
 all of it where no address of loopback can be bound. Ends with status 1 and what was wrong where
 something was.
 """
+import difflib
 import itertools
 import json
 import os
@@ -33,8 +34,8 @@ import labs
 ROOT = pathlib.Path(__file__).resolve().parent.parent
 RANDOM, FEW = 20, 3  # networks that are made up
 AT_ONCE = 40  # daemons
-LONGEST = 30  # seconds until tables are equal
-BOUND = 60  # seconds after which a daemon is ended
+LONGEST = 60  # seconds until tables are equal
+BOUND = 90  # seconds after which a daemon is ended
 APART = 1.0  # seconds between the two looks at which tables have to be equal
 MOST_PREPENDED = 3
 QUIET = "1 work done\n2 pull quiet\n"
@@ -142,6 +143,15 @@ class Lab:
                     subprocess.Popen(words, stdin=subprocess.DEVNULL, stdout=log, stderr=log)
                 )
 
+    def ended(self):
+        """What those daemons said last that ended by themselves."""
+        told = []
+        for name, daemon in zip(self.names, self.daemons):
+            if daemon.poll() is not None:
+                said = (self.folder / f"{name}.log").read_text(errors="replace").splitlines()
+                told += [f"{self.name}: {name} ended with {daemon.returncode}", *said[-9:]]
+        return told
+
     def end(self):
         for daemon in self.daemons:
             daemon.terminate()  # which it hands on
@@ -241,6 +251,9 @@ def compare(batch):
         while waiting and time.monotonic() < ends:
             time.sleep(APART)
             still = []
+            told += [line for lab in waiting for line in lab.ended()]
+            if told:
+                return told
             for lab in waiting:
                 lab.found = lab.tables()
                 if lab.found != lab.wanted:
@@ -252,8 +265,9 @@ def compare(batch):
                 still.append(lab)
             waiting = still
         for lab in waiting:
-            told += [f"{lab.name}: other tables", "wanted", lab.wanted, "found", lab.found]
-            told += [labs.topology(lab.plan, lab.BOUND)]
+            wanted, found = lab.wanted.splitlines(), lab.found.splitlines()
+            told.append(f"{lab.name}: other tables")
+            told += difflib.unified_diff(wanted, found, "wanted", "found", n=99, lineterm="")
     finally:
         for lab in batch:
             lab.end()
