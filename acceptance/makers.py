@@ -12,6 +12,7 @@ of the edited text with the cause of each, or which lines the plan has in the pl
 import contextlib
 import io
 import pathlib
+import re
 import runpy
 import sys
 import tempfile
@@ -219,6 +220,7 @@ FRR_LINES = {
         ("ip prefix-list OUT seq 9 permit 10.0.0.0/8 le 24",
          "an entry that is there twice, or has the number of another"),
         ("hostnam a", "a line that isn't known"),
+        ("no service integrated-vtysh-config", "a line that isn't known"),
     ],
 }
 
@@ -270,6 +272,7 @@ FRR_REFUSED = [
       " neighbor 10.0.0.7": POLICIES}),
     ("a.conf", "ip route 10.1.2.0/24 blackhole\n", "", {"  network 10.1.2": ROUTE}),
     ("a.conf", "/24 blackhole", "/24 10.0.0.1", {"  network 10.1.2": ROUTE}),
+    ("a.conf", "/24 blackhole", "/24 blackhole 200", {"  network 10.1.2": ROUTE}),
     ("a.conf", "interface lo", "interface dummy0", {"  network 10.1.1": ROUTE}),
     ("a.conf", "interface lo", "interface lo\n shutdown", {"  network 10.1.1": ROUTE}),
     ("a.conf", "compare-routerid\n", "compare-routerid\n no bgp default ipv4-unicast\n",
@@ -454,8 +457,10 @@ TOPOLOGY_REFUSED = [
     ("lab", "      kind: linux\n", "      kind: linux\n      image: x\n      image: y\n",
      {"image: y": "a key twice"}),
     ("lab", "a.conf:BOUND", "${HOME}/a.conf:BOUND",
-     {"        - ${HOME}": "no text without variables", "    a:": "no file configures a node"}),
-    ("lab", "      binds: [b.conf:BOUND]\n", "", {"    b:": "no file configures a node"}),
+     {"        - ${HOME}": "no text without variables",
+      "    a:": "no file configures a node that isn't labelled as a host"}),
+    ("lab", "      binds: [b.conf:BOUND]\n", "",
+     {"    b:": "no file configures a node that isn't labelled as a host"}),
     ("lab", "- ip addr add", "- vtysh -c", {"        - vtysh": "a command that isn't known"}),
     ("lab", "10.0.0.1/31", "fd00::1/64", {"        - ip addr": "no address of IPv4"}),
     ("lab", "    b:\n", "    b+:\n", {"    b+": "a name that no device of a plan has",
@@ -615,6 +620,32 @@ def others():
         ("b.conf", "10.0.0.0 remote-as", "eth3 interface v6only remote-as"),
     )
     yield frr, unnumbered, [], 0, PLAN, ""
+    group = " neighbor G peer-group\n neighbor G remote-as external\n"
+    grouped = edits(
+        frr,
+        ("a.conf", " neighbor 10.0.0.1 remote-as 65002\n",
+         f"{group} neighbor eth1 interface peer-group G\n"),
+        ("a.conf", "neighbor 10.0.0.1", "neighbor eth1"),
+        ("b.conf", " neighbor 10.0.0.0 remote-as external\n",
+         f"{group} neighbor eth3 interface\n neighbor eth3 peer-group G\n"),
+    )
+    yield frr, grouped, [], 0, PLAN, ""
+    loopbacks = edits(
+        frr,
+        ("a.conf", "interface lo\n", "interface lo\n ip address 10.8.0.1/32\n"),
+        ("a.conf", "10.0.0.1 description up", "10.0.0.1 update-source lo"),
+        ("a.conf", "neighbor 10.0.0.1", "neighbor 10.8.0.2"),
+        ("a.conf", " ip address 10.1.1.1/24\n", ""),
+        ("a.conf", "ip route", "ip route 10.1.1.0/24 blackhole\nip route"),
+        ("b.conf", "exit\n", " neighbor 10.0.0.0 update-source 10.8.0.2\nexit\n"),
+        ("b.conf", "neighbor 10.0.0.0", "neighbor 10.8.0.1"),
+    )
+    near = "a peer in no network of an interface: neighbor 10.8.0."
+    yield frr, loopbacks, [], 3, "", f"a.conf:25: {near}2 remote-as 65002\nb.conf:4: {near}1 "
+    for name in ("a.conf", "b.conf"):
+        far = "\\1 ebgp-multihop\n\\1 remote-as"
+        loopbacks[name] = re.sub(r"( neighbor \S+) remote-as", far, loopbacks[name])
+    yield frr, loopbacks, [], 0, PLAN, ""
     mixed = edits(
         frr,
         ("a.conf", " neighbor 10.0.0.1 remote-as 65002", eth1),

@@ -78,8 +78,9 @@ def usable(plan):
 
 
 def networks(is_all):
-    with open(ROOT / "examples/q-emulated.toml", "rb") as file:
-        yield "five devices", tomllib.load(file)
+    for name, example in (("five devices", "q-emulated"), ("five with policies", "q-policies")):
+        with open(ROOT / f"examples/{example}.toml", "rb") as file:
+            yield name, tomllib.load(file)
     yield "a fabric of two pods", fabric()
     linked = (seed for seed in itertools.count() if generated.made(seed)["link"])
     for seed in itertools.islice(linked, RANDOM if is_all else FEW):
@@ -193,7 +194,7 @@ class Lab:
 
 class Frr(Lab):
     WORD, TOOL, BOUND, WRITE = "FRR", "plan-from-frr", "/etc/frr/frr.conf", staticmethod(labs.frr)
-    PROGRAM, PACKAGE = "/usr/lib/frr/bgpd", "frr"
+    PROGRAM, PACKAGE, VERSIONS = "/usr/lib/frr/bgpd", "frr", ((8, 4), (99,))
 
     def command(self, name):
         """bgpd without zebra, so that no route gets into the kernel."""
@@ -218,6 +219,7 @@ class Frr(Lab):
 class Bird(Lab):
     WORD, TOOL, BOUND = "BIRD", "plan-from-bird", "/etc/bird/bird.conf"
     WRITE, PROGRAM, PACKAGE = staticmethod(labs.bird), "/usr/sbin/bird", "bird2"
+    VERSIONS = (2, 0, 12), (3,)
 
     def command(self, name):
         words = [self.PROGRAM, "-f", "-c", self.folder / f"{name}.conf"]
@@ -285,14 +287,23 @@ def can_bind():
     return True
 
 
+def version(program):
+    """The version that a daemon says it has."""
+    ended = subprocess.run([program, "--version"], capture_output=True, text=True, timeout=30)
+    found = re.search(r"version (\d+(?:\.\d+)*)", ended.stdout + ended.stderr)
+    return tuple(map(int, found[1].split("."))) if found else ()
+
+
 def kinds():
     """The daemons that are there."""
     found = []
     for kind in (Frr, Bird):
-        if pathlib.Path(kind.PROGRAM).exists():
-            found.append(kind)
-        else:
+        if not pathlib.Path(kind.PROGRAM).exists():
             print(f"peers.py: {kind.WORD} is skipped; Debian's package {kind.PACKAGE} has it")
+        elif not kind.VERSIONS[0] <= version(kind.PROGRAM) < kind.VERSIONS[1]:
+            print(f"peers.py: {kind.WORD} is skipped, since it was tried with other versions")
+        else:
+            found.append(kind)
     if not shutil.which("timeout"):
         print("peers.py: skipped, since there is no timeout; Debian's package coreutils has it")
         return []

@@ -57,6 +57,7 @@ class Session:
     prepend: int = 0
     is_down: bool = False
     is_passive: bool = False
+    is_near: bool = False  # it comes up with an address in the network of an interface alone
     password: str | None = None
 
 
@@ -165,9 +166,15 @@ class Network:
             if owners:
                 cause = f"a peer whose address several devices have ({', '.join(owners)})"
             self.refused.add(session.place, cause, session.line)
+        elif session.is_near and not self.is_near(device, session):
+            self.refused.add(session.place, "a peer in no network of an interface", session.line)
         elif own := self.source(name, device, session):
             return owners[0], own, session.peer
         return None, None, None
+
+    def is_near(self, device, session):
+        peer = ipaddress.IPv4Address(session.peer)
+        return any(of and peer in it.network for it, of in device.addresses.items())
 
     def source(self, name, device, session):
         """The own address of a session: the one that is told, or that of the peer's network."""

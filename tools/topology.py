@@ -216,7 +216,9 @@ class Topology:
         if not found and node.startup:
             found = [Item(self.path.parent / node.startup.value, node.startup.place)]
         if len(found) != 1:
-            cause = "several files configure a node" if found else "no file configures a node"
+            cause = "no file configures a node that isn't labelled as a host"
+            if found:
+                cause = "several files configure a node"
             self.refused.add(node.place, cause, node.name)
             return None
         return found[0]
