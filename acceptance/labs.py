@@ -45,7 +45,9 @@ def frr(plan, device, address):
     lines = ["frr version 8.4.4", "frr defaults traditional", f"hostname {name}"]
     neighbors = [" neighbor COMMON peer-group", f" neighbor COMMON update-source {address(name)}"]
     neighbors += [" neighbor COMMON ebgp-multihop 2", " neighbor COMMON timers connect 1"]
-    family = ["  maximum-paths 8"]
+    neighbors += [" neighbor COMMON description a peer"]
+    family = ["  maximum-paths 8", "  neighbor COMMON soft-reconfiguration inbound"]
+    family += ["  neighbor COMMON next-hop-self", "  neighbor COMMON send-community"]
     for number, (other, up) in enumerate(linked(plan, name)):
         peer, said = next(it for it in plan["device"] if it["name"] == other), policy(device, other)
         front = f" neighbor {address(other)}"
@@ -100,7 +102,8 @@ def bird(plan, device, address):
     lines += ["}", f"define OWN = {asn};", "template bgp common {", "  multihop;", "  strict bind;"]
     lines += [f"  local {address(name)} port {PORT} as OWN;", "  connect delay time 1;"]
     lines += ["  connect retry time 1;", "  error wait time 1, 2;"]
-    lines += ["  ipv4 { import all; export all; };", "}"]
+    lines += ['  description "a peer";', "  hold time 60;", "  keepalive time 20;"]
+    lines += ["  ipv4 { import all; export all; next hop self; };", "}"]
     for number, (other, up) in enumerate(linked(plan, name)):
         peer, said = next(it for it in plan["device"] if it["name"] == other), policy(device, other)
         channel = []

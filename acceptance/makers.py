@@ -121,16 +121,16 @@ protocol static {
   route 10.1.1.0/24 blackhole;
   route 10.1.2.0/24 unreachable { bgp_origin = ORIGIN_EGP; };
 }
-filter out {
+filter outward {
   bgp_path.prepend(OWN);
   if net ~ WIDE then { bgp_path.prepend(65001); accept; }
   reject;
 }
-template bgp peer {
+template bgp common {
   local as OWN;
   hold time 9;
 }
-protocol bgp up from peer {
+protocol bgp to_b from common {
   local 10.0.0.0 as 65001;
   neighbor 10.0.0.1 as 65002;
   ipv4 {
@@ -138,13 +138,13 @@ protocol bgp up from peer {
       if (net ~ [ 10.2.0.0/16{17,30} ]) then reject;
       accept;
     };
-    export filter out;
+    export filter outward;
     next hop self;
   };
 }
 """,
     "b.conf": """router id 10.9.0.2;
-protocol bgp down {
+protocol bgp to_a {
   local as 65002;
   neighbor 10.0.0.0 external;
   ipv4 { import all; export all; };
@@ -339,19 +339,21 @@ BIRD_LINES = {
         ("  default bgp_med 5;", "MED"),
         ("  default bgp_local_pref 200;", "LOCAL_PREF"),
         ("  prefer older on;", "other rules of the decision"),
-        ("  compare path lengths off;", "other rules of the decision"),
+        ("  path metric off;", "other rules of the decision"),
+        ("  igp metric off;", "other rules of the decision"),
+        ("  med metric on;", "MED"),
         ("  allow local as 2;", "own AS numbers in a path, or other ones"),
         ("  ttl security on;", "a check of the distance"),
         ("  graceful restart on;", "graceful restart"),
         ("  interpret communities off;", "communities"),
         ("  ipv6 { import all; export all; };", "another address family"),
         ("  vrf \"red\";", "VRFs"),
-        ("  route limit 9;", "limits on prefixes"),
-        ("  gateway recursive;", "a statement that isn't known"),
+        ("  local role peer;", "a statement that isn't known"),
     ],
     "    next hop self;\n": [
         ("    import limit 9 action block;", "limits on prefixes"),
         ("    preference 150;", "other rules of the decision"),
+        ("    gateway recursive;", "other rules of the decision"),
         ("    add paths on;", "several best routes"),
         ("    secondary on;", "several best routes"),
         ("    table other;", "other tables"),
@@ -389,7 +391,7 @@ BIRD_LINES = {
         ("ipv6 table six;", "another address family"),
         ("include \"more.conf\";", "a statement that isn't known"),
         ("define OWN = 7;", "a constant of another form"),
-        ("filter none { if net ~ [ 10.0.0.0/8 ] then accept; }",
+        ("filter some { if net ~ [ 10.0.0.0/8 ] then accept; }",
          "a filter that may end without accept and reject"),
         ("protocol direct { ipv4; }", "networks of interfaces that aren't named"),
         ("protocol direct { ipv4; interface \"eth*\"; }",
@@ -400,17 +402,17 @@ BIRD_LINES = {
 
 # What stands in the place of a text, and what is refused then.
 BIRD_REFUSED = [
-    ("a.conf", "1 as 65002", "1 as 65001", {"protocol bgp up": "iBGP"}),
+    ("a.conf", "1 as 65002", "1 as 65001", {"protocol bgp to_b": "iBGP"}),
     ("a.conf", "1 as 65002", "1 internal", {"  neighbor 10.0.0.1": "iBGP"}),
     ("a.conf", "10.0.0.1 as 65002", "fd00::1 as 65002",
      {"  neighbor fd00::1": "another address family"}),
     ("a.conf", "1 as 65002", "1 as 7",
-     {"protocol bgp up": "another AS number than b has, which is 65002"}),
+     {"protocol bgp to_b": "another AS number than b has, which is 65002"}),
     ("a.conf", "import filter", "import where source = RTS_BGP; export filter",
      {"    import where": "redistribution"}),
-    ("a.conf", "    export filter out;\n", "", {"protocol bgp up": "a protocol without export"}),
-    ("a.conf", "export filter out", "import filter out",
-     {"protocol bgp up": "a protocol without export"}),
+    ("a.conf", "    export filter outward;\n", "", {"protocol bgp to_b": "a protocol without export"}),
+    ("a.conf", "export filter outward", "import filter outward",
+     {"protocol bgp to_b": "a protocol without export"}),
     ("a.conf", "prepend(65001)", "prepend(7)",
      {"  if net": "another number than the own one in front"}),
     ("a.conf", "  reject;\n", "  if net ~ [ 10.7.0.0/16+ ] then accept;\n  reject;\n",
@@ -422,15 +424,15 @@ BIRD_REFUSED = [
     ("a.conf", "  local 10.0.0.0 as 65001;\n", "  local 10.0.0.0 as 7;\n",
      {"  if net": "another number than the own one in front",
       "  bgp_path": "another number than the own one in front"}),
-    ("a.conf", "protocol bgp up", "protocol bgp far { local as OWN; neighbor 10.0.0.9 as 7; "
-     "multihop; ipv4 { import all; export all; }; }\nprotocol bgp up",
-     {"protocol bgp far": "multihop beside others, by which distance decides first"}),
+    ("a.conf", "protocol bgp to_b", "protocol bgp to_c { local as OWN; neighbor 10.0.0.9 as 7; "
+     "multihop; ipv4 { import all; export all; }; }\nprotocol bgp to_b",
+     {"protocol bgp to_c": "multihop beside others, by which distance decides first"}),
     ("b.conf", "10.0.0.0 external", "10.0.0.9 external",
      {"protocol bgp": "a peer whose address no device has",
-      "a.conf protocol bgp up": "a session that b doesn't have with this address"}),
+      "a.conf protocol bgp to_b": "a session that b doesn't have with this address"}),
     ("b.conf", "  local as 65002;\n", "  local as 65002;\n  password \"x\";\n",
      {"protocol bgp": "another password than a has",
-      "a.conf protocol bgp up": "another password than b has"}),
+      "a.conf protocol bgp to_b": "another password than b has"}),
 ]
 
 BIRD_MADE = [
