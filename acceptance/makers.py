@@ -7,7 +7,8 @@ wrong where something was; skipped with a line where python3 has no yaml.
 
 A lab is a topology and a configuration for each of its two nodes, `a` and `b`. A row of a table
 edits one of them: it replaces a text that is there once. Then it says what is refused, by the lines
-of the edited text with the cause of each, or which lines the plan has in the place of others.
+of the edited text with the cause of each, or which lines the plan has in the place of others. The
+rows of FRR are in frr_rows.py, those of BIRD in bird_rows.py.
 """
 import contextlib
 import io
@@ -21,6 +22,8 @@ import tomllib
 ROOT = pathlib.Path(__file__).resolve().parent.parent
 sys.dont_write_bytecode = True
 sys.path.insert(0, str(ROOT / "tools"))
+import bird_rows
+import frr_rows
 
 TOPOLOGY = """name: lab
 topology:
@@ -62,395 +65,6 @@ id = "10.9.0.2"
 a = "a"
 b = "b"
 """
-
-FRR = {
-    "a.conf": """frr version 8.4
-frr defaults traditional
-hostname a
-!
-ip prefix-list IN seq 10 permit any
-ip prefix-list IN seq 5 deny 10.2.0.0/16 ge 17 le 30
-ip prefix-list OUT permit 10.0.0.0/8 le 24
-route-map MORE permit 10
- set as-path prepend 65001 65001
-exit
-route-map EGP permit 10
- set origin egp
-exit
-interface eth1
- ip address 10.0.0.0/31
-exit
-interface lo
- ip address 10.1.1.1/24
-exit
-ip route 10.1.2.0/24 blackhole
-router bgp 65001
- bgp router-id 10.9.0.1
- bgp bestpath compare-routerid
- neighbor 10.0.0.1 remote-as 65002
- neighbor 10.0.0.1 description up
- !
- address-family ipv4 unicast
-  network 10.1.1.0/24
-  network 10.1.2.0/24 route-map EGP
-  neighbor 10.0.0.1 prefix-list IN in
-  neighbor 10.0.0.1 prefix-list OUT out
-  neighbor 10.0.0.1 route-map MORE out
-  maximum-paths 4
- exit-address-family
-exit
-end
-""",
-    "b.conf": """router bgp 65002
- bgp router-id 10.9.0.2
- no bgp ebgp-requires-policy
- neighbor 10.0.0.0 remote-as external
-exit
-""",
-}
-
-BIRD = {
-    "a.conf": """# the router a
-router id 10.9.0.1;
-define OWN = 65001;
-define WIDE = [ 10.0.0.0/8{8,24} ];
-protocol device { }
-protocol kernel { ipv4 { export all; import none; }; }
-protocol static {
-  ipv4;
-  route 10.1.1.0/24 blackhole;
-  route 10.1.2.0/24 unreachable { bgp_origin = ORIGIN_EGP; };
-}
-filter outward {
-  bgp_path.prepend(OWN);
-  if net ~ WIDE then { bgp_path.prepend(65001); accept; }
-  reject;
-}
-template bgp common {
-  local as OWN;
-  hold time 9;
-}
-protocol bgp to_b from common {
-  local 10.0.0.0 as 65001;
-  neighbor 10.0.0.1 as 65002;
-  ipv4 {
-    import filter {
-      if (net ~ [ 10.2.0.0/16{17,30} ]) then reject;
-      accept;
-    };
-    export filter outward;
-    next hop self;
-  };
-}
-""",
-    "b.conf": """router id 10.9.0.2;
-protocol bgp to_a {
-  local as 65002;
-  neighbor 10.0.0.0 external;
-  ipv4 { import all; export all; };
-}
-""",
-}
-
-# Lines that FRR may have behind these, each with the cause by which it is refused.
-FRR_LINES = {
-    " bgp bestpath compare-routerid\n": [
-        (" bgp cluster-id 1.1.1.1", "iBGP"),
-        (" bgp confederation identifier 7", "confederations"),
-        (" bgp always-compare-med", "MED"),
-        (" bgp bestpath med missing-as-worst", "MED"),
-        (" bgp default local-preference 200", "LOCAL_PREF"),
-        (" bgp bestpath as-path multipath-relax as-set", "several best routes"),
-        (" bgp bestpath as-path ignore", "other rules of the decision"),
-        (" bgp listen range 10.0.0.0/8 peer-group G", "sessions that are told by a range"),
-        (" bgp graceful-restart", "graceful restart or shutdown"),
-        (" bgp dampening", "damping"),
-        (" bgp default shutdown", "a session that is shut by default"),
-        (" bgp suppress-fib-pending", "waiting for the forwarding table"),
-        (" no bgp fast-convergence", "a line that isn't known"),
-        (" neighbor fd00::1 remote-as 65002", "a neighbor that is no address of IPv4"),
-        (" neighbor 10.0.0.1 local-as 7", "own AS numbers in a path, or other ones"),
-        (" neighbor 10.0.0.1 ttl-security hops 1", "a check of the distance"),
-        (" neighbor 10.0.0.1 peer-group G", "a group that isn't there"),
-        (" neighbor 10.0.0.1 remote-as auto", "a line that isn't known"),
-        (" network 127.1.0.0/16 backdoor", "a line that isn't known"),
-        (" address-family ipv6 unicast\n  neighbor x activate\n exit-address-family",
-         "another address family"),
-    ],
-    "  maximum-paths 4\n": [
-        ("  neighbor 10.0.0.1 route-reflector-client", "iBGP"),
-        ("  maximum-paths ibgp 2", "iBGP"),
-        ("  neighbor 10.0.0.1 weight 5", "weights"),
-        ("  neighbor 10.0.0.1 addpath-tx-all-paths", "several best routes"),
-        ("  aggregate-address 10.0.0.0/8", "aggregation"),
-        ("  redistribute connected", "redistribution"),
-        ("  neighbor 10.0.0.1 default-originate", "redistribution"),
-        ("  neighbor 10.0.0.1 allowas-in", "own AS numbers in a path, or other ones"),
-        ("  neighbor 10.0.0.1 as-override", "own AS numbers in a path, or other ones"),
-        ("  neighbor 10.0.0.1 remove-private-AS", "own AS numbers in a path, or other ones"),
-        ("  neighbor 10.0.0.1 attribute-unchanged", "NEXT_HOP"),
-        ("  neighbor 10.0.0.1 filter-list F in", "other lists"),
-        ("  neighbor 10.0.0.1 distribute-list F in", "other lists"),
-        ("  neighbor 10.0.0.1 maximum-prefix 9", "limits on prefixes"),
-    ],
-    " set as-path prepend 65001 65001\n": [
-        (" set community 1:1", "communities"),
-        (" set metric 5", "MED"),
-        (" set local-preference 200", "LOCAL_PREF"),
-        (" set ip next-hop 10.0.0.9", "NEXT_HOP"),
-        (" set as-path exclude 7", "another number than the own one in front"),
-        (" set as-path prepend last-as 2", "another number than the own one in front"),
-        (" match ip address prefix-list IN", "a route map that does more"),
-        (" on-match next", "a route map that does more"),
-    ],
-    " ip address 10.0.0.0/31\n": [
-        (" ip ospf cost 5", "another routing protocol"),
-        (" vrf red", "VRFs and views"),
-        (" ip address dhcp", "no address of IPv4"),
-    ],
-    "end\n": [
-        ("bgp community-list standard C permit 1:1", "communities"),
-        ("ipv6 prefix-list L seq 5 permit any", "another address family"),
-        ("access-list A permit 10.0.0.0/8", "other lists"),
-        ("router ospf\n network 10.0.0.0/8 area 0\nexit", "another routing protocol"),
-        ("vrf red\n ip route 10.0.0.0/8 blackhole\nexit-vrf", "VRFs and views"),
-        ("router bgp 65001 vrf red\n bgp router-id 1.1.1.1\nexit", "VRFs and views"),
-        ("router bgp 7", "a second AS number"),
-        ("route-map MORE permit 20", "a route map that does more"),
-        ("ip prefix-list OUT seq 9 permit 10.0.0.0/8 le 24",
-         "an entry that is there twice, or has the number of another"),
-        ("hostnam a", "a line that isn't known"),
-        ("no service integrated-vtysh-config", "a line that isn't known"),
-    ],
-}
-
-ROUTE = "a network that no interface and no static route has, without no bgp network import-check"
-POLICIES = [f"no policy {word}, without no bgp ebgp-requires-policy" for word in ("in", "out")]
-NUMBER = "another number than the own one, or too many"
-
-# What stands in the place of a text, and what is refused then.
-FRR_REFUSED = [
-    ("a.conf", "1 remote-as 65002", "1 remote-as 65001", {" neighbor 10.0.0.1 remote": "iBGP"}),
-    ("a.conf", "1 remote-as 65002", "1 remote-as internal", {" neighbor 10.0.0.1 remote": "iBGP"}),
-    ("a.conf", "1 remote-as 65002", "1 remote-as 7",
-     {" neighbor 10.0.0.1 remote": "another AS number than b has, which is 65002"}),
-    ("a.conf", "1 remote-as 65002", "1 port 179", {" neighbor": "a neighbor without remote-as"}),
-    ("a.conf", "bgp 65001", "bgp 0", {"router bgp": "no AS number", " set as-path": NUMBER}),
-    # route maps
-    ("a.conf", "prepend 65001 65001", "prepend 65001 7", {" set as-path": NUMBER}),
-    ("a.conf", "prepend 65001", "prepend" + 255 * " 65001", {" set as-path": NUMBER}),
-    ("a.conf", "map MORE permit", "map MORE deny",
-     {"route-map MORE": "a route map that does more",
-      "  neighbor 10.0.0.1 route-map": "a route map that isn't there"}),
-    ("a.conf", "route-map MORE out", "route-map EGP out",
-     {"  neighbor 10.0.0.1 route-map": "a route map that does more than a plan says (origin)"}),
-    ("a.conf", "route-map MORE out", "route-map MORE in",
-     {"  neighbor 10.0.0.1 route-map": "a route map that does more than a plan says (prepend)"}),
-    ("a.conf", "4 route-map EGP", "4 route-map MORE",
-     {"  network 10.1.2": "a route map that does more than a plan says (prepend)"}),
-    # prefix lists: one that isn't there denies all to some versions, and permits all to others
-    ("a.conf", "prefix-list IN in", "prefix-list NONE in",
-     {"  neighbor 10.0.0.1 prefix-list NONE": "a prefix list without entries"}),
-    ("a.conf", "ip prefix-list OUT permit 10.0.0.0/8 le 24", "ip prefix-list OUT description x",
-     {"  neighbor 10.0.0.1 prefix-list OUT": "a prefix list without entries"}),
-    ("a.conf", "ge 17 le", "ge 15 le", {"ip prefix-list IN seq 5": "lengths that aren't in order"}),
-    ("a.conf", "ge 17 le", "ge 31 le", {"ip prefix-list IN seq 5": "lengths that aren't in order"}),
-    ("a.conf", "17 le 30", "33", {"ip prefix-list IN seq 5": "lengths that aren't in order"}),
-    ("a.conf", "ge 17 le 30", "ge 17 le 30 x", {"ip prefix-list IN seq 5":
-     "an entry of another form, or with bits behind its prefix's length"}),
-    ("a.conf", "deny 10.2.0.0/16", "deny 10.2.1.0/16", {"ip prefix-list IN seq 5":
-     "an entry of another form, or with bits behind its prefix's length"}),
-    ("a.conf", "seq 5 deny", "seq 10 deny", {"ip prefix-list IN seq 10 deny":
-     "an entry that is there twice, or has the number of another"}),
-    # what FRR does by default
-    ("b.conf", " no bgp ebgp-requires-policy\n", "", {" neighbor": POLICIES}),
-    ("b.conf", " no bgp ebgp", " bgp ebgp", {" neighbor": POLICIES}),
-    ("a.conf", "bestpath compare-routerid\n",
-     "log-neighbor-changes\n neighbor 10.0.0.7 remote-as 7\n neighbor 10.0.0.7 shutdown\n",
-     {"router bgp":
-      "no bgp bestpath compare-routerid, without which the oldest route is the best",
-      " neighbor 10.0.0.7": POLICIES}),
-    ("a.conf", "ip route 10.1.2.0/24 blackhole\n", "", {"  network 10.1.2": ROUTE}),
-    ("a.conf", "/24 blackhole", "/24 10.0.0.1", {"  network 10.1.2": ROUTE}),
-    ("a.conf", "/24 blackhole", "/24 blackhole 200", {"  network 10.1.2": ROUTE}),
-    ("a.conf", "interface lo", "interface dummy0", {"  network 10.1.1": ROUTE}),
-    ("a.conf", "interface lo", "interface lo\n shutdown", {"  network 10.1.1": ROUTE}),
-    ("a.conf", "compare-routerid\n", "compare-routerid\n no bgp default ipv4-unicast\n",
-     {" neighbor": "a neighbor that isn't active for IPv4 unicast"}),
-    # devices
-    ("a.conf", " bgp router-id 10.9.0.1\n", "",
-     {"router bgp": "no bgp router-id that is an address"}),
-    ("a.conf", "10.9.0.1", "10.9.0.256", {" bgp router": "no bgp router-id that is an address"}),
-    ("b.conf", "10.9.0.2", "10.9.0.1", {"router bgp": "the router id 10.9.0.1, which a has too"}),
-    ("b.conf", FRR["b.conf"], "hostname b\n", {"hostname": "there is no router bgp"}),
-    ("a.conf", "network 10.1.1.0/24", "network 10.0.0.0",
-     {"  network 10.0.0.0": [ROUTE, "no prefix, or one with bits behind its length"]}),
-    ("a.conf", "network 10.1.1.0/24\n", "network 10.1.2.0/24\n",
-     {"  network 10.1.2.0/24 route": "a prefix that is there twice"}),
-    ("a.conf", "network 10.1.1.0/24", "network 10.1.1.1/24",
-     {"  network 10.1.1.1": [ROUTE, "no prefix, or one with bits behind its length"]}),
-    ("a.conf", "compare-routerid\n", "compare-routerid\n no bgp network import-check\n"
-     " network 127.1.0.0/16\n", {" network 127": "a prefix of which daemons take no route"}),
-    # sessions
-    ("a.conf", "description up", "password x",
-     {" neighbor": "another password than b has",
-      "b.conf neighbor": "another password than a has"}),
-    ("a.conf", " ip address 10.0.0.0/31\n", "",
-     {" neighbor": "a peer in no network of an interface",
-      "b.conf neighbor": "a peer whose address no device has"}),
-    ("b.conf", "10.0.0.0 remote-as", "10.0.0.7 remote-as",
-     {" neighbor": "a peer whose address no device has",
-      "a.conf neighbor": "a session that b doesn't have with this address"}),
-    ("b.conf", "10.0.0.0 remote-as", "10.0.0.1 remote-as",
-     {" neighbor": "a peer that is the device itself",
-      "a.conf neighbor": "a session that b doesn't have with this address"}),
-    ("b.conf", "10.0.0.0 remote-as", "eth9 interface remote-as",
-     {" neighbor": "a peer behind no link",
-      "a.conf neighbor": "a session that b doesn't have with this address"}),
-    ("b.conf", " neighbor 10.0.0.0 remote-as external\n", "",
-     {"a.conf neighbor": "a session that b doesn't have with this address"}),
-]
-
-# What a plan has in the place of others of its lines where a text is another.
-FRR_MADE = [
-    ("a.conf", "description up", "shutdown", 'b = "b"\n', 'b = "b"\nup = false\n'),
-    ("b.conf", "exit\n", "interface eth3\n shutdown\nexit\n", 'b = "b"\n', 'b = "b"\nup = false\n'),
-    ("a.conf", "remote-as 65002", "remote-as external", "", ""),
-    ("a.conf", "defaults traditional", "defaults datacenter", "", ""),
-    ("a.conf", "  neighbor 10.0.0.1 prefix-list OUT out\n", "",
-     'export = ["permit 10.0.0.0/8 le 24"]\n', ""),
-    # a group's words, where the peer has none of its own
-    ("a.conf", " neighbor 10.0.0.1 remote-as 65002\n", " neighbor G peer-group\n"
-     " neighbor G remote-as external\n neighbor G prefix-list OUT in\n"
-     " neighbor 10.0.0.1 peer-group G\n", "", ""),
-    # what is read in the context around it
-    ("a.conf", "  maximum-paths 4\n exit-address-family\nexit\n", "interface eth7\n", "", ""),
-    ("b.conf", " no bgp ebgp-requires-policy\n", " no bgp network import-check\n"
-     " no bgp ebgp-requires-policy\n network 10.7.0.0/16\n",
-     'layer = 2\nasn = 65002\nid = "10.9.0.2"\n',
-     'layer = 1\nasn = 65002\nid = "10.9.0.2"\nown = ["10.7.0.0/16"]\n'),
-]
-
-# Statements that BIRD may have behind these, each with the cause by which it is refused.
-BIRD_LINES = {
-    "  hold time 9;\n": [
-        ("  rr client;", "iBGP"),
-        ("  confederation 7;", "confederations"),
-        ("  default bgp_med 5;", "MED"),
-        ("  default bgp_local_pref 200;", "LOCAL_PREF"),
-        ("  prefer older on;", "other rules of the decision"),
-        ("  path metric off;", "other rules of the decision"),
-        ("  igp metric off;", "other rules of the decision"),
-        ("  med metric on;", "MED"),
-        ("  allow local as 2;", "own AS numbers in a path, or other ones"),
-        ("  ttl security on;", "a check of the distance"),
-        ("  graceful restart on;", "graceful restart"),
-        ("  interpret communities off;", "communities"),
-        ("  ipv6 { import all; export all; };", "another address family"),
-        ("  vrf \"red\";", "VRFs"),
-        ("  local role peer;", "a statement that isn't known"),
-    ],
-    "    next hop self;\n": [
-        ("    import limit 9 action block;", "limits on prefixes"),
-        ("    preference 150;", "other rules of the decision"),
-        ("    gateway recursive;", "other rules of the decision"),
-        ("    add paths on;", "several best routes"),
-        ("    secondary on;", "several best routes"),
-        ("    table other;", "other tables"),
-        ("    next hop keep;", "NEXT_HOP"),
-    ],
-    "  reject;\n": [
-        ("  accept;", "a statement behind the end of a filter"),
-    ],
-    "  if net ~ WIDE then { bgp_path.prepend(65001); accept; }\n": [
-        ("  bgp_community.add((1,1));", "communities"),
-        ("  bgp_med = 5;", "MED"),
-        ("  bgp_local_pref = 200;", "LOCAL_PREF"),
-        ("  if source = RTS_STATIC then accept;", "redistribution"),
-        ("  if bgp_path ~ [= * 7 =] then accept;", "another filter than by prefixes"),
-        ("  if net ~ [ 10.9.0.0/16- ] then reject;",
-         "a set that has more than prefixes and longer ones"),
-        ("  if net ~ [ 10.9.0.0/16{8,24} ] then reject;",
-         "a set that has shorter prefixes, or none"),
-        ("  if net = 10.9.0.0/16 then reject;", "another filter than by prefixes"),
-        ("  bgp_path.delete(7);", "attributes"),
-        ("  if net ~ WIDE then { reject; } else { accept; }", "another filter than by prefixes"),
-    ],
-    "  route 10.1.1.0/24 blackhole;\n": [
-        ("  route 10.3.0.0/16 via 10.0.0.1;", "a route that isn't always there"),
-        ("  route 10.3.0.1/16 blackhole;", "no prefix, or one with bits behind its length"),
-        ("  route 10.1.1.0/24 unreachable;", "a prefix that is there twice"),
-        ("  route 224.1.0.0/16 blackhole;", "a prefix of which daemons take no route"),
-        ("  check link;", "a statement that isn't known"),
-    ],
-    "protocol device { }\n": [
-        ("protocol ospf v2 { ipv4; area 0 { }; }", "another routing protocol"),
-        ("protocol pipe { table a; peer table b; }", "another routing protocol"),
-        ("protocol kernel { learn; }", "redistribution"),
-        ("function f() { return true; }", "functions"),
-        ("ipv6 table six;", "another address family"),
-        ("include \"more.conf\";", "a statement that isn't known"),
-        ("define OWN = 7;", "a constant of another form"),
-        ("filter some { if net ~ [ 10.0.0.0/8 ] then accept; }",
-         "a filter that may end without accept and reject"),
-        ("protocol direct { ipv4; }", "networks of interfaces that aren't named"),
-        ("protocol direct { ipv4; interface \"eth*\"; }",
-         "the network of eth0, whose address isn't told"),
-        ("protocol bgp more from nothing { }", "a template that isn't there"),
-    ],
-}
-
-# What stands in the place of a text, and what is refused then.
-BIRD_REFUSED = [
-    ("a.conf", "1 as 65002", "1 as 65001", {"protocol bgp to_b": "iBGP"}),
-    ("a.conf", "1 as 65002", "1 internal", {"  neighbor 10.0.0.1": "iBGP"}),
-    ("a.conf", "10.0.0.1 as 65002", "fd00::1 as 65002",
-     {"  neighbor fd00::1": "another address family"}),
-    ("a.conf", "1 as 65002", "1 as 7",
-     {"protocol bgp to_b": "another AS number than b has, which is 65002"}),
-    ("a.conf", "import filter", "import where source = RTS_BGP; export filter",
-     {"    import where": "redistribution"}),
-    ("a.conf", "    export filter outward;\n", "", {"protocol bgp to_b": "a protocol without export"}),
-    ("a.conf", "export filter outward", "import filter outward",
-     {"protocol bgp to_b": "a protocol without export"}),
-    ("a.conf", "prepend(65001)", "prepend(7)",
-     {"  if net": "another number than the own one in front"}),
-    ("a.conf", "  reject;\n", "  if net ~ [ 10.7.0.0/16+ ] then accept;\n  reject;\n",
-     {"  reject;": "numbers in front of some routes alone"}),
-    ("a.conf", "router id 10.9.0.1;\n", "",
-     {"# the router a": "no router id that is an address"}),
-    ("b.conf", "  local as 65002;\n", "",
-     {"protocol bgp": "a protocol without own AS number"}),
-    ("a.conf", "  local 10.0.0.0 as 65001;\n", "  local 10.0.0.0 as 7;\n",
-     {"  if net": "another number than the own one in front",
-      "  bgp_path": "another number than the own one in front"}),
-    ("a.conf", "protocol bgp to_b", "protocol bgp to_c { local as OWN; neighbor 10.0.0.9 as 7; "
-     "multihop; ipv4 { import all; export all; }; }\nprotocol bgp to_b",
-     {"protocol bgp to_c": "multihop beside others, by which distance decides first"}),
-    ("b.conf", "10.0.0.0 external", "10.0.0.9 external",
-     {"protocol bgp": "a peer whose address no device has",
-      "a.conf protocol bgp to_b": "a session that b doesn't have with this address"}),
-    ("b.conf", "  local as 65002;\n", "  local as 65002;\n  password \"x\";\n",
-     {"protocol bgp": "another password than a has",
-      "a.conf protocol bgp to_b": "another password than b has"}),
-]
-
-BIRD_MADE = [
-    ("a.conf", "  local 10.0.0.0", "  disabled;\n  local 10.0.0.0",
-     'b = "b"\n', 'b = "b"\nup = false\n'),
-    ("a.conf", "then reject;\n      accept;", "then accept;\n      reject;",
-     '"deny 10.2.0.0/16 ge 17 le 30", "permit 0.0.0.0/0 le 32"',
-     '"permit 10.2.0.0/16 ge 17 le 30"'),
-    ("b.conf", "import all; export all;", "import none; export where net ~ [ 10.0.0.0/8+ ];",
-     'id = "10.9.0.2"\n', 'id = "10.9.0.2"\n[[device.peer]]\nname = "a"\nimport = []\n'
-     'export = ["permit 10.0.0.0/8 le 32"]\n'),
-    ("b.conf", "protocol bgp",
-     "protocol direct { ipv4; interface \"eth3\", \"lo\"; }\nprotocol bgp",
-     'layer = 2\nasn = 65002\nid = "10.9.0.2"\n',
-     'layer = 1\nasn = 65002\nid = "10.9.0.2"\nown = ["10.0.0.0/31"]\n'),
-    ("a.conf", "if net ~ WIDE then { bgp_path.prepend(65001); accept; }\n  reject;",
-     "bgp_path.prepend(OWN);\n  if net !~ WIDE then reject;\n  accept;", "", ""),
-]
 
 TOPOLOGY_REFUSED = [
     ("lab", "  nodes:", "  settings: 1\n  nodes:", {"  settings": "a key that isn't known"}),
@@ -497,8 +111,8 @@ TOPOLOGY_MADE = [
 ]
 
 TOOLS = {
-    "plan-from-frr": (FRR, "/etc/frr/frr.conf", FRR_LINES, FRR_REFUSED, FRR_MADE),
-    "plan-from-bird": (BIRD, "/etc/bird/bird.conf", BIRD_LINES, BIRD_REFUSED, BIRD_MADE),
+    "plan-from-frr": (frr_rows, "/etc/frr/frr.conf"),
+    "plan-from-bird": (bird_rows, "/etc/bird/bird.conf"),
 }
 FILES = {"lab": "lab.clab.yml"}
 
@@ -526,7 +140,7 @@ def made(tool, files, words=()):
 
 def edited(tool, name, old, new):
     """The files of a tool's lab, of which one has another text in the place of this."""
-    texts, bound = TOOLS[tool][:2]
+    texts, bound = TOOLS[tool][0].TEXTS, TOOLS[tool][1]
     files = texts | {"lab": TOPOLOGY.replace("BOUND", bound)}
     old, new = old.replace("BOUND", bound), new.replace("BOUND", bound)
     if not files[name].count(old):
@@ -572,15 +186,15 @@ def making(tool, name, old, new, line, other):
 
 def rows():
     """Each row of a table, with what judges it."""
-    for tool, (_, _, lines, refused, makes) in TOOLS.items():
+    for tool, (of, _) in TOOLS.items():
         yield making, (tool, "a.conf", "\n", "\n", "", "")
-        for behind, told in lines.items():
+        for behind, told in of.LINES.items():
             for line, cause in told:
                 new = behind + line + "\n"
                 yield refusal, (tool, "a.conf", behind, new, {line.partition("\n")[0]: cause})
-        for row in refused + TOPOLOGY_REFUSED:
+        for row in of.REFUSED + TOPOLOGY_REFUSED:
             yield refusal, (tool, *row)
-        for row in makes + TOPOLOGY_MADE:
+        for row in of.MADE + TOPOLOGY_MADE:
             yield making, (tool, *row)
 
 
@@ -639,7 +253,8 @@ def others():
         ("a.conf", "neighbor 10.0.0.1", "neighbor 10.8.0.2"),
         ("a.conf", " ip address 10.1.1.1/24\n", ""),
         ("a.conf", "ip route", "ip route 10.1.1.0/24 blackhole\nip route"),
-        ("b.conf", "exit\n", " neighbor 10.0.0.0 update-source 10.8.0.2\nexit\n"),
+        ("b.conf", "exit\n", " neighbor 10.0.0.0 update-source 10.8.0.2\nexit\n"
+         "interface lo\n ip address 10.8.0.2/32\nexit\n"),
         ("b.conf", "neighbor 10.0.0.0", "neighbor 10.8.0.1"),
     )
     near = "a peer in no network of an interface: neighbor 10.8.0."

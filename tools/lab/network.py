@@ -1,4 +1,4 @@
-"""What plan-from-frr and plan-from-bird share: from the configurations of a lab's nodes to a plan.
+"""From the configurations of a lab's nodes to a plan: what plan-from-frr and plan-from-bird share.
 
 Each tool reads a configuration into a `Device`. Here the sessions of both ends are put together
 with the links of the topology, layers are found, and the plan's text is written. What no plan can
@@ -12,12 +12,12 @@ import pathlib
 import re
 import sys
 
-import topology
+from lab import topology
 
 LONGEST_PREPEND = 254
 GREATEST_LAYER = 255
 GREATEST_ASN = 4294967295
-PERMIT_ALL, DENY_ALL = "permit 0.0.0.0/0 le 32", "deny 0.0.0.0/0 le 32"
+PERMIT_ALL = "permit 0.0.0.0/0 le 32"
 
 # Of a prefix in these a daemon takes no route in.
 BOGUS = [*map(ipaddress.IPv4Network, "0.0.0.0/8 127.0.0.0/8 169.254.0.0/16 224.0.0.0/3".split())]
@@ -111,7 +111,8 @@ class Network:
         self.owners = {}
         for name, device in devices.items():
             for address in device.addresses:
-                self.owners.setdefault(str(address.ip), []).append(name)
+                owners = self.owners.setdefault(str(address.ip), [])
+                owners += [name] if name not in owners else []
         ends = self.ends()
         for (name, own, peer), (other, session) in ends.items():
             self.pair(name, other, session, ends.get((other, peer, own)))
