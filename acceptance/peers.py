@@ -325,7 +325,7 @@ def main(program, *words):
             for kind in there:
                 made.append(kind(name, usable(plan), len(made), spot))
         for lab in made:
-            wrong = lab.read_back(program)
+            wrong = lab.read_back(pathlib.Path(program).resolve())
             told += [f"{lab.name}: {wrong[0]}", *wrong[1:]] if wrong else []
         batch = []
         for lab in [*made, None]:
