@@ -1,4 +1,4 @@
-"""What the program answers: to `plan`, and to the pulls of a script, as files of answers hold it."""
+"""What the program answers: to `plan`, and to the pulls of scripts, as files of answers have it."""
 import collections
 import pathlib
 import re

@@ -29,7 +29,7 @@ KEYS = {  # of each table, in the order in which they are written
 # Why a boundary isn't certified, in the program's words, and which devices of the island face it or
 # originate what is originated elsewhere too: with these emulated, that reason is gone.
 Refusal = collections.namedtuple("Refusal", "line devices")
-# What a device sends over a link that is up: to whom, with which numbers in front, past which lists.
+# What goes over a link that is up: to whom, with which numbers in front, and past which lists.
 Session = collections.namedtuple("Session", "receiver asn front export heard")
 
 
