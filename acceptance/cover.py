@@ -239,6 +239,7 @@ def a_fabric_is_covered_by_pods(house):
     wants(house.run("merge", "--plan", "fabric.toml", "-o", "merged", *tables), (0, "", ""), "-o")
     wants(house.run("diff-tables", "all", "merged"), (0, "", ""), "merged beside the pull of all")
     wants(house.run("merge", "--plan", "fabric.toml", "merged", tables[0])[0], 0, "merged again")
+    wants(covered(house, plan, "together", "--together", "2")[1], 2, "parts of two pods, or of one")
 
 
 def a_batch_file_runs_a_task_for_each_job(house):
@@ -269,9 +270,58 @@ def made_up_networks_are_covered(house):
         plan = made_up(seed)
         parts += covered(house, plan, f"net-{seed}", "--by", "device")[1]
     wants(parts >= FEWEST_PARTS, True, f"{parts} parts are enough")
-    covered(house, plan, "together", "--by", "device", "--together", "2")
     covered(house, plan, "chosen", "--from", "d3,d1", "d0")
     house.refused("cover", ["chosen.toml", "--out", "chosen"], "chosen is there already", "again")
+
+
+def network(systems, links):
+    """Devices a, b, c, .. of layer 1 with these AS numbers, each with a prefix."""
+    names = "abcdef"[:len(systems)]
+    devices = [
+        device(name, 1, asn, f"10.0.0.{n}", [f"10.{n}.0.0/16"])
+        for n, (name, asn) in enumerate(zip(names, systems))
+    ]
+    return {"device": devices, "link": [{"a": a, "b": b} for a, b in links],
+            "emulate": [*names]}
+
+
+def devices_are_added_until_it_is_certified(house):
+    two = fixpoint.read(ROOT / "examples/q-emulated.toml")
+    two["device"].append(device("t3", 1, 65103, "10.0.0.3", ["10.1.2.0/24"]))
+    two["link"] += [{"a": "t3", "b": leaf} for leaf in ("l1", "l2")]
+    two["emulate"].append("t3")
+    added = [
+        "  with t2 because origins island t2 prefix 10.1.2.0/24: t2 t3",
+        "  with t3 because origins island t3 prefix 10.1.2.0/24: t3 t2",
+    ]
+    trials = (
+        (two, "t1", ["t1", "t2", "t3"], added),
+        (network([1, 2, 3], ["ab", "bc"]), "a,c", ["a", "b", "c"],
+         ["  with b because facing emulated island b: a 1 c 3"]),
+        (network([1, 2, 3], ["ab", "bc", "ca"]), "a", ["a", "b", "c"],
+         ["  with b c because facing outside island b: b 2 c 3"]),
+    )
+    for number, (plan, names, must, told) in enumerate(trials):
+        path = house.write("added.toml", text(plan))
+        status, stdout, _ = house.run("cover", path, "--out", f"added-{number}", "--from", names)
+        lines = [line for line in stdout.splitlines() if line.startswith(" ")]
+        wants((status, lines), (0, told), f"what is added to {names}")
+        part = fixpoint.read(house.spot / f"added-{number}/part-1.toml")
+        wants(part["must"], must, "from what it grows")
+
+
+def a_path_has_255_numbers_at_most(house):
+    for copies, rows in ((253, 3), (254, 2)):
+        plan = network([9, 1, 2, 3], ["ab", "bc", "cd"])
+        for it in plan["device"][2:]:
+            it["own"] = []
+        plan["device"][1]["peer"] = [{"name": "c", "prepend": copies}]
+        wants(len(records(plan, {"a"})), rows, f"records with {copies} copies")
+        path = house.write("long.toml", text(plan))
+        made = house.run("records-from-plan", path, "-o", "made", "--emulate", "a")
+        wants(made, (0, "", ""), f"a plan with {copies} copies")
+        found = fixpoint.read(house.spot / "made")["record"]
+        wants(found, records(plan, {"a"}), f"records with {copies} copies")
 
 
 def merge_refuses_what_does_not_fit(house):
@@ -293,6 +343,9 @@ def merge_refuses_what_does_not_fit(house):
          f"{house.spot}/f: pull 3 was answered again mailbox t1 l1"),
         ([house.write("g", QUIET + good[:-1])], f"{house.spot}/g ends in the middle of a line"),
         ([house.write("h", "1 work done\n")], f"{house.spot}/h has no pull"),
+        ([house.write("j", QUIET + good.replace(row, other, 1) + "3 pull quiet\n" + good),
+          house.write("k", QUIET + good + "3 pull quiet\ntable t9\n")],
+         f"{house.spot}/k has a table of t9, and {path} no such device"),
         ([house.write("i", "refused facing\n")],
          f"{house.spot}/i, line 1: this is no line of an answer: refused facing"),
         ([f"{house.spot}/absent"], f"{house.spot}/absent: No such file or directory"),
@@ -365,6 +418,8 @@ def main(program):
             a_fabric_is_covered_by_pods,
             a_batch_file_runs_a_task_for_each_job,
             made_up_networks_are_covered,
+            devices_are_added_until_it_is_certified,
+            a_path_has_255_numbers_at_most,
             merge_refuses_what_does_not_fit,
             a_plan_gets_its_records,
             a_plan_without_a_safe_boundary_is_refused,
