@@ -216,8 +216,8 @@ def covered(house, plan, name, *words):
     status, stdout, stderr = house.run("cover", path, "--out", folder, *words)
     wants((status, stderr), (0, ""), f"cover of {name}")
     count = judge_parts(plan, folder)
-    wants(stdout.splitlines()[-1], f"{count} parts emulate all {len(plan['device'])} devices",
-          "the last line of cover")
+    wants(stdout.splitlines()[-1], f"{count} parts emulate all {len(plan['device'])} devices"
+          if count > 1 else f"1 part emulates all {len(plan['device'])} devices", "the last line")
     wants(stdout.count(": certified emulated "), count, "parts that are certified")
     run_jobs(folder)
     merged = house.run("merge", "--plan", path, *sorted(folder.glob("*.tables")))
@@ -352,6 +352,9 @@ def merge_refuses_what_does_not_fit(house):
     )
     for words, told in trials:
         house.refused("merge", ["--plan", path, a, *words], told, f"merge of {words}")
+    older = house.write("l", QUIET + good + "3 pull quiet\n")
+    told = "5 of 5 devices have no table: t1 is one"
+    house.refused("merge", ["--plan", path, older], told, "an older pull")
 
 
 def a_plan_gets_its_records(house):
@@ -389,6 +392,8 @@ def a_plan_without_a_safe_boundary_is_refused(house):
     house.refused("records-from-plan", [path, "--emulate", "t1", "l1", "s1"],
                   "refused facing emulated island t2: t1 65101 l1 65201", "a boundary")
     house.refused("records-from-plan", [path, "--must", "t9"], "there is no device t9", "a name")
+    nested = house.write("nested.toml", q.replace('emulate = ["t1"', 'emulate = [["t1"]', 1))
+    house.refused("records-from-plan", [nested], "there is no device ['t1']", "no name")
     trials = (
         ("layer = 1", "layer = 1\nzone = 2", "no device has the key zone"),
         ("version = 1", "version = 3", "a plan of version 3 isn't known here"),
@@ -396,8 +401,13 @@ def a_plan_without_a_safe_boundary_is_refused(house):
         ("asn = 65101", "", None),
         ("asn = 65101", 'asn = "65101"', "bad text made.toml: shape device[0].asn"),
         ('name = "t2"', 'name = "t1"', None),
+        ("asn = 65101", "asn = 1979-05-27", None),
+        ("asn = 65101", 'asn = 65101\npeer = [{ name = "l1", prepend = 999999999999 }]', None),
+        ("asn = 65101", 'asn = 65101\npeer = [{ name = "l1", export = ["permit"] }]', None),
+        ('own = ["10.1.1.0/24"]', 'own = ["10.1.1.0/40"]', None),
     )
     for old, new, told in trials:
+        wants(old in q, True, f"{old} is there")
         path = house.write("bad.toml", q.replace(old, new, 1))
         for tool, words in (("records-from-plan", []), ("cover", ["--out", "bad"])):
             status, stdout, stderr = house.run(tool, path, *words)

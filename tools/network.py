@@ -49,7 +49,27 @@ def address(text):
 def by_prefix(prefix):
     """Prefixes are ordered by their 32 bits, then by length."""
     front, length = prefix.split("/")
-    return address(front), int(length)
+    return address(front), at_most(32, int(length))
+
+
+def at_most(greatest, number):
+    if not 0 <= number <= greatest:
+        raise ValueError(f"{number} isn't from 0 to {greatest}")
+    return number
+
+
+def entry(text):
+    """An entry of a prefix list: the prefix and the lengths that it matches, and what it says."""
+    word, within, *bounds = text.split(" ")
+    bounds = dict(zip(bounds[0::2], map(int, bounds[1::2])))
+    front, common = by_prefix(within)
+    greatest = bounds.get("le", 32 if "ge" in bounds else common)
+    return front, common, bounds.get("ge", common), greatest, word == "permit"
+
+
+def entries(peer, key):
+    """The prefix list under a key of a peer, or None."""
+    return tuple(map(entry, peer[key])) if key in peer else None
 
 
 @functools.cache
@@ -59,14 +79,9 @@ def permits(entries, prefix):
     if entries is None:
         return True
     bits, length = by_prefix(prefix)
-    for entry in entries:
-        word, within, *bounds = entry.split(" ")
-        bounds = dict(zip(bounds[0::2], map(int, bounds[1::2])))
-        front, common = by_prefix(within)
-        greatest = bounds.get("le", 32 if "ge" in bounds else common)
-        covered = bits >> (32 - common) == front >> (32 - common)
-        if covered and bounds.get("ge", common) <= length <= greatest:
-            return word == "permit"
+    for front, common, least, greatest, permit in entries:
+        if least <= length <= greatest and bits >> (32 - common) == front >> (32 - common):
+            return permit
     return False
 
 
@@ -118,6 +133,7 @@ class Network:
                 self.origins.setdefault(prefix, []).append(n)
         self.ids = [address(device["id"]) for device in self.device]
         self.join()
+        self.body = self.body_text()
         self.texts = {}  # the records of islands that were asked for last
 
     def owns(self, device):
@@ -137,15 +153,13 @@ class Network:
                 self.linked[a].append(b)
                 if link.get("up", True):
                     told, heard = peers[a].get(self.names[b], {}), peers[b].get(self.names[a], {})
-                    front = (self.device[a]["asn"],) * (1 + told.get("prepend", 0))
-                    lists = [
-                        tuple(peer[key]) if key in peer else None
-                        for peer, key in ((told, "export"), (heard, "import"))
-                    ]
+                    copies = 1 + at_most(LONGEST_PATH - 1, told.get("prepend", 0))
+                    front = (self.device[a]["asn"],) * copies
+                    lists = entries(told, "export"), entries(heard, "import")
                     self.sessions[a].append(Session(b, self.device[b]["asn"], front, *lists))
 
     def number(self, name):
-        if name not in self.place:
+        if not isinstance(name, str) or name not in self.place:
             raise Fault(f"there is no device {name}")
         return self.place[name]
 
@@ -275,8 +289,7 @@ class Network:
 
     # ---- the plan's text
 
-    @functools.cached_property
-    def body(self):
+    def body_text(self):
         """The text of the devices and links."""
         parts = []
         for device in self.device:
