@@ -1,4 +1,4 @@
-"""Networks for cover.py as tables of a plan, and their texts: a fabric, made up ones, small ones."""
+"""Networks for cover.py as tables of a plan, and their texts: a fabric, made up and small ones."""
 import json
 import random
 
