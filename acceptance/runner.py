@@ -6,8 +6,10 @@
 It compares standard output, the status and the files that are left; standard error must be empty.
 Some cases more are programs: boundary.py runs a part of a fabric and the whole of it, fixpoint.py
 computes the tables that the cases expect, generated.py compares them on made up plans, launch.py
-tries the scripts that build and run the program, and tools.py those of tools/. Where SCRIPT, the
-script `crystal`, is named too, it must answer as the program does. Ends with 'N passed, M failed', and with status 1 where a case failed.
+tries the scripts that build and run the program, tools.py and makers.py those of tools/, cover.py
+of these the ones that make plans of parts, and peers.py runs other programs that speak BGP. Where
+SCRIPT, the script `crystal`, is named too, it must answer as the program does. Ends with 'N passed,
+M failed', and with status 1 where a case failed.
 """
 import difflib
 import pathlib
@@ -162,8 +164,11 @@ def main(program, script=None):
     judged.append(("fixpoint.py", judge_tables(cases)))
     judged.append(("boundary.py", judge_program("boundary.py", program)))
     judged.append(("generated.py", judge_program("generated.py", program)))
+    judged.append(("cover.py", judge_program("cover.py", program)))
     judged.append(("launch.py", judge_program("launch.py")))
     judged.append(("tools.py", judge_program("tools.py")))
+    judged.append(("makers.py", judge_program("makers.py")))
+    judged.append(("peers.py", judge_program("peers.py", program)))
     if script:
         judged.append(("the script crystal", judge_script(script, cases)))
     for name, told in judged:
