@@ -1,21 +1,23 @@
 -- Pools that take in a path, and what is known of longer paths.
-use Rattle.std.proofs.Common.{◌≡◌, ℕ, ◌<◌, ◌≤◌, true, false, cond, List, [], ◌∷◌, ◌++◌, length, Some, Result, Ok, Err, refl, sym, ap, subst, ◌∙◌, ⊎_elim, true≢false, arith, length-append, get_or, Contains}
-use Rattle.std.specs.Prelude.{◌&&◌, ◌==◌, OnOk, OnErr, slice_get, replicate, unwrap_or}
+use Rattle.std.proofs.Common.{◌≡◌, ℕ, ◌+◌, ◌<◌, ◌≤◌, ◌^◌, true, false, cond, List, [], ◌∷◌, ◌++◌, length, Some, Result, Ok, Err, refl, sym, ap, subst, ◌∙◌, ⊎_elim, true≢false, arith, length-append, get_or, Contains}
+use Rattle.std.specs.Prelude.{◌&&◌, ◌==◌, IfSome, OnOk, OnErr, slice_get, replicate, unwrap_or}
 use Rattle.std.specs.Cmp.{first_so, second_so}
 use Rattle.std.specs.Cmp.Lexicographic.{pointwise_decides}
 use Rattle.std.specs.HashMap.{IsUnchanged, Updates, get}
+use Rattle.std.specs.List.{find}
 use Rattle.std.specs.Map.{lookup}
 use Rattle.std.proofs.lemmas.Bool.{cases_Bool, cases_lt, eq-eqb, eqb-true}
 use Rattle.std.proofs.lemmas.Grind.{common_steps}
 use Rattle.std.proofs.lemmas.List.{get_or_push}
 use Rattle.std.proofs.lemmas.List.Elements.{Contains-get_or}
+use Rattle.std.proofs.lemmas.Map.Made.{IfSome-find_same}
 use Rattle.std.proofs.lemmas.Map.Views.{list_any-from_Contains}
 use Rattle.std.proofs.lemmas.Option.{get_or_from_slice_get, gets, slice_get_within}
 use Rattle.cn_base.specs.declared.ids.Asn.{Asn}
 use Rattle.cn_base.specs.SamePath.{same_path, same_path_equiv}
 use Rattle.cn_pool.specs.declared.pool.PathId.{PathId}
 use Rattle.cn_pool.specs.declared.pool.Step.{Step}
-use Rattle.cn_pool.specs.Pool.{IsDistinct, IsLonger, IsPool, Joins, Known, holds_path, path_after, same_step, with_path}
+use Rattle.cn_pool.specs.Pool.{Extends, IsDistinct, IsLonger, IsPool, Joins, Known, holds_path, path_after, path_under, same_step, with_path}
 
 -- ---- equal paths
 
@@ -101,6 +103,12 @@ module _ (pool : List (List Asn)) (path : List Asn) where
           (cases_lt j (length pool)))
           (cases_lt i (length pool))
 
+  one_longer : length (with_path pool path) ≤ length pool + 1
+  one_longer = ⊎_elim
+      (λ h. omega (arith, ap length (held_stays h)))
+      (λ h. omega (arith, ap length (new_goes_last h), length-append pool (path ∷ [])))
+      (cases_Bool (holds_path pool path))
+
   joined_distinct : IsDistinct pool → IsDistinct (with_path pool path)
   joined_distinct distinct = ⊎_elim
       (λ h. subst IsDistinct (sym (held_stays h)) distinct)
@@ -121,9 +129,10 @@ module _ (pool : List (List Asn)) (path : List Asn) where
 
   -- a pool with one path more is a pool
   pub joined_pool : (known : Known) (pool' : List (List Asn)) → IsPool pool known
-      → pool' ≡ with_path pool path → IsPool pool' known
-  joined_pool known pool' was e = subst (λ ps. IsPool ps known) (sym e) (record {
+      → length pool < 2 ^ 32 → pool' ≡ with_path pool path → IsPool pool' known
+  joined_pool known pool' was few e = subst (λ ps. IsPool ps known) (sym e) (record {
     distinct = joined_distinct was.distinct;
+    few = omega (arith, few, one_longer);
     right = λ step id h. longer_kept step id (was.right step id h);
   })
 
@@ -139,6 +148,56 @@ interned pool old new path place same joined stored =
       there = stored.1 ∙ ap Some (sym (path_is path stored.0 stored.2));
       kept = λ i low. ap (λ ps. slice_get ps i) here ∙ kept old path i low;
     }
+
+-- what a look-up of a path finds is that path
+pub found_is : (pool : List (List Asn)) (path held : List Asn)
+    → Some held ≡ find (same_path path) pool → held ≡ path
+found_is pool path held e =
+    subst (λ o. IfSome o (λ k. k ≡ path)) (sym e)
+    (IfSome-find_same (pointwise_decides same_asn) path pool)
+
+-- a path that the pool holds is in it already
+pub stays : (pool : List (List Asn)) (path : List Asn) (id : PathId)
+    → slice_get pool id.0 ≡ Some path → Joins pool pool path id
+stays pool path id at = record {
+  joined = sym (held_stays pool path (held_at pool id.0 path at));
+  there = at;
+  kept = λ i low. refl;
+}
+
+-- ---- a pool with more paths
+
+pub extends_itself : (pool : List (List Asn)) → Extends pool pool
+extends_itself pool = record { longer = omega arith; kept = λ i low. refl }
+
+pub extends_on : (old new more : List (List Asn)) → Extends old new → Extends new more
+    → Extends old more
+extends_on old new more first then = record {
+  longer = omega (arith, first.longer, then.longer);
+  kept = λ i low. then.kept i (omega (arith, low, first.longer)) ∙ first.kept i low;
+}
+
+pub extends_joined : (old new : List (List Asn)) (path : List Asn) (id : PathId)
+    → Joins old new path id → Extends old new
+extends_joined old new path id joins = record {
+  longer =
+      subst (λ ps. length old ≤ length ps) (sym joins.joined) (longer_pool old path);
+  kept = joins.kept;
+}
+
+-- an id of the old pool has its path in the new one
+pub path_kept : (old new : List (List Asn)) (id : PathId) → Extends old new → id.0 < length old
+    → path_under new id ≡ path_under old id
+path_kept old new id more within = ap (λ o. unwrap_or o []) (more.kept id.0 within)
+
+-- the id with which a path joined is one of the pool, and its path is that
+pub joined_within : (old new : List (List Asn)) (path : List Asn) (id : PathId)
+    → Joins old new path id → id.0 < length new
+joined_within old new path id joins = slice_get_within new id.0 path joins.there
+
+pub joined_path : (old new : List (List Asn)) (path : List Asn) (id : PathId)
+    → Joins old new path id → path_under new id ≡ path
+joined_path old new path id joins = ap (λ o. unwrap_or o []) joins.there
 
 -- ---- what is known
 
@@ -200,7 +259,7 @@ pub known_with : {E F : Type 0} (pool : List (List Asn)) (old new : Known) (step
     → OnOk r (Updates same_step old new step (Some id)) → OnErr r (IsUnchanged old new)
     → IsPool pool new
 known_with pool old new step id (Ok x) was longer updates same =
-    record { distinct = was.distinct; right = right }
+    record { distinct = was.distinct; few = was.few; right = right }
   where
     right : (q : Step) (j : PathId) → get same_step new q ≡ Some j → IsLonger pool q j
     right q j at = ⊎_elim
@@ -213,5 +272,6 @@ known_with pool old new step id (Ok x) was longer updates same =
         (cases_Bool (same_step step q))
 known_with pool old new step id (Err x) was longer updates same = record {
   distinct = was.distinct;
+  few = was.few;
   right = λ q j at. was.right q j (ap (λ es. lookup (same_step q) es) (sym same) ∙ at);
 }

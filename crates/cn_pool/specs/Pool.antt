@@ -1,5 +1,5 @@
 -- Pools of paths.
-use Rattle.std.specs.Prelude.{◌≡◌, ◌==◌, ◌&&◌, ℕ, ◌<◌, ◌≤◌, ◌↔◌, Bool, List, [], ◌∷◌, ◌++◌, if◌then◌else◌, length, replicate, slice_get, Some, unwrap_or}
+use Rattle.std.specs.Prelude.{◌≡◌, ◌==◌, ◌&&◌, ℕ, ◌<◌, ◌≤◌, ◌^◌, ◌↔◌, Bool, List, [], ◌∷◌, ◌++◌, if◌then◌else◌, length, replicate, slice_get, Some, unwrap_or}
 use Rattle.std.specs.List.{list_any}
 use Rattle.std.specs.HashMap.{HashMap, get}
 use Rattle.std.specs.declared.hash.BuildHasherDefault.{BuildHasherDefault}
@@ -17,9 +17,18 @@ holds_path pool path = list_any (same_path path) pool
 abbrev pub with_path : List (List Asn) → List Asn → List (List Asn)
 with_path pool path = if holds_path pool path then pool else pool ++ path ∷ []
 
+-- the path of an id, and the empty one where the pool gave no such id
+abbrev pub path_under : List (List Asn) → PathId → List Asn
+path_under pool id = unwrap_or (slice_get pool id.0) []
+
 -- the path of an id with so many copies of a number in front (RFC 4271, 5.1.2 b)
 abbrev pub longer_path : List (List Asn) → PathId → Asn → ℕ → List Asn
-longer_path pool id asn times = replicate times asn ++ unwrap_or (slice_get pool id.0) []
+longer_path pool id asn times = replicate times asn ++ path_under pool id
+
+-- the new pool has each path of the old one by the id that it had
+pub record Extends (old new : List (List Asn)) : Type 0 where
+  pub longer : length old ≤ length new
+  pub kept : (i : ℕ) → i < length old → slice_get new i ≡ slice_get old i
 
 -- the path is in the new pool, by this id, and each path of the old one by the id that it had
 pub record Joins (old new : List (List Asn)) (path : List Asn) (id : PathId) : Type 0 where
@@ -59,8 +68,9 @@ same_step x y = x.path.0 == y.path.0 && (x.asn.0 == y.asn.0 && x.times == y.time
 abbrev pub Known : Type 0
 Known = HashMap Step PathId (BuildHasherDefault FoldHasher)
 
--- the paths are distinct, and what is known of longer paths is right
+-- the paths are distinct and have ids, and what is known of longer paths is right
 pub record IsPool (pool : List (List Asn)) (known : Known) : Type 0 where
   pub distinct : IsDistinct pool
+  pub few : length pool ≤ 2 ^ 32
   pub right : (step : Step) (id : PathId) → get same_step known step ≡ Some id
       → IsLonger pool step id

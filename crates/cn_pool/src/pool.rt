@@ -1,7 +1,7 @@
 //! Distinct paths, each with a number.
 
-ghost use Rattle.std.specs.Prelude.{◌≡◌, ◌+◌, ◌<◌, ◌≤◌, [], length, slice_get, option_copied, MatchOption, IfOk, IfErr, IsOk, IsTrue, OnErr};
-ghost use Rattle.cn_pool.specs.Pool.{IsDistinct, Joins, holds_path, longer_path};
+ghost use Rattle.std.specs.Prelude.{◌≡◌, ◌+◌, ◌<◌, ◌≤◌, [], false, length, slice_get, option_copied, MatchOption, IfOk, IfErr, IsOk, IsTrue, OnErr, Some};
+ghost use Rattle.cn_pool.specs.Pool.{IsDistinct, Joins, holds_path, longer_path, path_under};
 
 use cn_base::{AsPath, Asn};
 use indexmap::IndexSet;
@@ -9,9 +9,13 @@ use std::alloc::{AllocError, Global};
 use std::collections::HashMap;
 use std::marker::Model;
 
-/// A path of a pool, by its place, from 0.
+// The greatest id.
+const MOST: usize = 0xFFFF_FFFF;
+
+/// A path of a pool, by its place, from 0. It has four octets, since the routes of a large network
+/// have many of them.
 #[derive(Clone, Copy, Debug, PartialEq, Eq, Hash)]
-pub struct PathId(pub u64);
+pub struct PathId(pub u32);
 
 /// What is put in front of a path: so many copies of a number.
 #[derive(Clone, Copy, Debug, PartialEq, Eq, Hash)]
@@ -28,10 +32,12 @@ pub struct Pool {
     paths: IndexSet<AsPath>,
     /// Where the longer paths are that were asked for.
     longer: HashMap<Step, PathId>,
+    /// The path of an id that the pool didn't give.
+    none: AsPath,
 }
 
 impl Model for Pool {
-    ghost use Rattle.std.specs.Prelude.{List};
+    ghost use Rattle.std.specs.Prelude.{◌≡◌, List, []};
     ghost use Rattle.cn_base.specs.declared.ids.Asn.{Asn};
     ghost use Rattle.cn_pool.specs.Pool.{IsPool};
 
@@ -39,7 +45,7 @@ impl Model for Pool {
 
     ghost view = { λ p. p.paths.keys };
 
-    ghost invariant = { λ p. IsPool p.paths.keys p.longer };
+    ghost invariant = { λ p. IsPool p.paths.keys p.longer × (p.none ≡ []) };
 }
 
 impl Pool {
@@ -50,6 +56,7 @@ impl Pool {
         Pool {
             paths: IndexSet::new(alloc),
             longer: HashMap::new(alloc),
+            none: AsPath::empty(alloc),
         }
     }
 
@@ -62,16 +69,59 @@ impl Pool {
     }
 
     /// The id of a path, which joins the pool where it isn't in it. The path comes back for want of
-    /// memory alone, and never where the pool holds it.
+    /// memory alone, which 2^32 paths are too, and never where the pool holds it.
     pub fn intern(&mut self, path: AsPath) -> Result<PathId, AsPath>
         ensures ok { IfOk result (λ id. Joins self.old self.new path id) }
         ensures err { IfErr result (λ back. (back ≡ path) × (self.new ≡ self.old)) }
         ensures known { IsTrue (holds_path self.old path) → IsOk result }
         ensures distinct { IsDistinct self.new }
     {
+        if let Some(id) = self.id_of(&path) {
+            return Ok(id);
+        }
+        if self.paths.len() > MOST {
+            return Err(path);
+        }
         match self.paths.insert_full(path) {
-            Ok((place, _)) => Ok(PathId(place as u64)),
+            Ok((place, _)) => Ok(PathId(place as u32)),
             Err(refused) => Err(refused.value),
+        }
+    }
+
+    /// The id of a path that the pool holds. None comes exactly where it doesn't hold it.
+    pub fn id_of(&self, path: &AsPath) -> Option<PathId>
+        ensures { MatchOption result (holds_path self.now path.now ≡ false)
+            (λ id. slice_get self.now id.0 ≡ Some path.now) }
+    {
+        let (place, _) = self.paths.get_full(path)?;
+        Some(PathId(place as u32))
+    }
+
+    /// The id of an equal path, which joins the pool where it isn't in it. The path is copied only
+    /// then. The error is want of memory.
+    pub fn intern_copy(&mut self, alloc: Global, path: &AsPath) -> Result<PathId, AllocError>
+        ensures ok { IfOk result (λ id. Joins self.old self.new path.now id) }
+        ensures err { OnErr result (self.new ≡ self.old) }
+        ensures distinct { IsDistinct self.new }
+    {
+        // The length tells that the paths are distinct.
+        let _ = self.len();
+        if let Some(id) = self.id_of(path) {
+            return Ok(id);
+        }
+        match self.intern(path.copy(alloc)?) {
+            Ok(id) => Ok(id),
+            Err(_) => Err(AllocError),
+        }
+    }
+
+    /// The path of an id, and the empty path where the pool gave no such id.
+    pub fn path(&self, id: PathId) -> &AsPath
+        ensures { result.now ≡ path_under self.now id }
+    {
+        match self.paths.get_index(id.0 as usize) {
+            Some(path) => path,
+            None => &self.none,
         }
     }
 

@@ -7,7 +7,7 @@ pub returns-in-Some-clause-ok : goal.returns-in-Some-clause-ok
 returns-in-Some-clause-ok c =
     let step : Step = record { path = c.args.id; asn = c.args.asn; times = c.args.times } in
     let found = sym c.in-Some.ensures.value in
-    let known = c.self.invariant.right step c.in-Some.known.now found in
+    let known = c.self.invariant.0.right step c.in-Some.known.now found in
     let keeps = known_joins c.self.inside.paths.keys _ _ known in
     rw c.self.view_is at keeps
 
@@ -19,5 +19,5 @@ invariant_of-self c =
     let longer = longer_joined c.args.self.now c.intern.new.self _ step c.in-Ok.longer
     c.index.result.now c.in-Some-2.longer at made.0 made.1 c.self-2.view_is
     c.in-Ok.ensures.ok in
-    known_with _ _ _ step c.in-Ok.longer c.insert.result c.self-2.invariant longer
-    c.insert.ensures.updates c.insert.ensures.err
+    (known_with _ _ _ step c.in-Ok.longer c.insert.result c.self-2.invariant.0 longer
+    c.insert.ensures.updates c.insert.ensures.err, c.self-2.invariant.1)
