@@ -4,3 +4,5 @@ pub mod Prefixes
 pub mod Rows
 pub mod PrefixMaps
 pub mod Updates
+pub mod Mapped
+pub mod IdRoutes

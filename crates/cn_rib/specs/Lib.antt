@@ -3,3 +3,4 @@ pub mod PrefixSet
 pub mod Tally
 pub mod PrefixMaps
 pub mod Updates
+pub mod Interned

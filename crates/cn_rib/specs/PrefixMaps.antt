@@ -31,3 +31,12 @@ picked_entries g (e ∷ es) = add_front e.0 (g e.1) (picked_entries g es)
 -- at each prefix what g gives of what the map has there
 unfoldable pub picked : {X Y : Type 0} → (X → Option Y) → FinMap prefix_cmp X → FinMap prefix_cmp Y
 picked g m = fin.from_sorted (picked_entries g (fin.entries m))
+
+-- at each prefix f of what the map has there
+abbrev pub mapped : {X Y : Type 0} → (X → Y) → FinMap prefix_cmp X → FinMap prefix_cmp Y
+mapped f m = picked (λ x. Some (f x)) m
+
+-- the map with this, if there is something, for each of these prefixes
+abbrev pub put_each : {X : Type 0} → FinMap prefix_cmp X → List Cidr → Option X → FinMap prefix_cmp X
+put_each m ps None = m
+put_each m ps (Some v) = fold (λ n p. fin.insert n p v) m ps

@@ -1,5 +1,6 @@
 //! Laws of the definitions. Each function does nothing; its contract is the law.
 
+ghost use Rattle.cn_rib.specs.Interned.{SameRoutesLaw};
 ghost use Rattle.cn_rib.specs.PrefixSet.{LeastLaw};
 ghost use Rattle.cn_rib.specs.Updates.{AppliedLaw};
 
@@ -11,4 +12,9 @@ pub fn least_law()
 /// An update changes the routes of its own prefixes alone.
 pub fn applied_update()
     ensures { AppliedLaw }
+{}
+
+/// A table stands for the same routes after further paths have joined the pool.
+pub fn same_routes()
+    ensures { SameRoutesLaw }
 {}

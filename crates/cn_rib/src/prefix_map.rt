@@ -1,13 +1,13 @@
 //! Finite maps from prefixes.
 
-ghost use Rattle.std.specs.Prelude.{◌≡◌, ◌+◌, ◌++◌, ◌<◌, ◌≤◌, ◌==◌, T, map, length, option_copied, slice_get, take, IsOk, OnOk, OnErr};
+ghost use Rattle.std.specs.Prelude.{◌≡◌, ◌+◌, ◌++◌, ◌<◌, ◌≤◌, ◌==◌, T, map, length, option_copied, slice_get, take, IsOk, OnOk, OnErr, Some};
 ghost use Rattle.std.specs.FinMap as fin;
 ghost use Rattle.std.specs.FinMap.{from_sorted, is_sorted};
 ghost use Rattle.std.specs.FinMap.Entries.{put};
 ghost use Rattle.std.specs.List.Sorted.{IsBinarySearchResult, IsSearchInRange};
 ghost use Rattle.std.specs.Vec.{vec_len, vec_capacity};
 ghost use Rattle.cn_base.specs.Table.{prefix_cmp};
-ghost use Rattle.cn_rib.specs.PrefixMaps.{put_all, remove_all};
+ghost use Rattle.cn_rib.specs.PrefixMaps.{put_all, put_each, remove_all};
 ghost use Rattle.cn_rib.specs.PrefixSet as set;
 
 use cn_base::Prefix;
@@ -131,6 +131,28 @@ impl<V> PrefixMap<V> {
         take_all_out(&mut self.rows, prefixes);
     }
 
+    // Takes each of these prefixes out, and then sets what the map has for each of the others, if
+    // there is something. All memory is taken before the first.
+    pub(crate) fn change_each(
+        &mut self,
+        removed: &[Prefix],
+        put: &[Prefix],
+        value: Option<V>,
+    ) -> Result<(), AllocError>
+    where
+        V: Copy,
+        ensures ok { OnOk result
+            (self.new ≡ put_each (remove_all self.old removed.now) put.now value) }
+        ensures err { OnErr result (self.new ≡ self.old) }
+    {
+        self.rows.reserve(put.len())?;
+        take_all_out(&mut self.rows, removed);
+        if let Some(value) = value {
+            put_each_in(&mut self.rows, put, value);
+        }
+        Ok(())
+    }
+
     // Takes each of these prefixes out, and then puts each of these rows in. All memory is taken
     // before the first.
     pub(crate) fn change(
@@ -173,6 +195,31 @@ impl PrefixMap<()> {
     {
         self.rows.reserve(prefixes.len())?;
         note_all(&mut self.rows, prefixes);
+        Ok(())
+    }
+
+    // Changes another map, and puts in each prefix of two lists. All memory is taken before the
+    // first change.
+    pub(crate) fn note_each<V>(
+        &mut self,
+        other: &mut PrefixMap<V>,
+        removed: &[Prefix],
+        announced: &[Prefix],
+        value: Option<V>,
+    ) -> Result<(), AllocError>
+    where
+        V: Copy,
+        ensures ok { OnOk result (self.new
+            ≡ set.insert_all self.old (removed.now ++ announced.now)) }
+        ensures changed { OnOk result
+            (other.new ≡ put_each (remove_all other.old removed.now) announced.now value) }
+        ensures err { OnErr result (self.new ≡ self.old) }
+        ensures err_changed { OnErr result (other.new ≡ other.old) }
+    {
+        self.rows.reserve(removed.len() + announced.len())?;
+        other.change_each(removed, announced, value)?;
+        note_all(&mut self.rows, removed);
+        note_all(&mut self.rows, announced);
         Ok(())
     }
 
@@ -314,6 +361,22 @@ where
 {
     for row in added {
         put(rows, row.prefix, row.value).unwrap();
+    }
+}
+
+// Puts a row with this value in for each of these prefixes, for which there is room.
+fn put_each_in<V>(rows: &mut Vec<Row<V>>, prefixes: &[Prefix], value: V)
+where
+    V: Copy,
+    requires sorted { T (is_sorted prefix_cmp (map (λ r. (r.prefix, r.value)) rows.old.items)) }
+    requires room { vec_len rows.old + length prefixes.now ≤ vec_capacity rows.old }
+    ensures sorted { T (is_sorted prefix_cmp (map (λ r. (r.prefix, r.value)) rows.new.items)) }
+    ensures value { from_sorted {R = prefix_cmp} (map (λ r. (r.prefix, r.value)) rows.new.items)
+        ≡ put_each (from_sorted (map (λ r. (r.prefix, r.value)) rows.old.items)) prefixes.now
+        (Some value) }
+{
+    for prefix in prefixes {
+        put(rows, *prefix, value).unwrap();
     }
 }
 

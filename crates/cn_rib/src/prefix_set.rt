@@ -3,7 +3,7 @@
 ghost use Rattle.std.specs.Prelude.{◌≡◌, ◌==◌, ◌++◌, IfOk, OnOk, OnErr, map};
 ghost use Rattle.std.specs.List.{fold};
 ghost use Rattle.std.specs.FinMap as fin;
-ghost use Rattle.cn_rib.specs.PrefixMaps.{put_all, remove_all};
+ghost use Rattle.cn_rib.specs.PrefixMaps.{put_all, put_each, remove_all};
 ghost use Rattle.cn_rib.specs.PrefixSet as set;
 
 use crate::prefix_map::{PrefixMap, Row};
@@ -107,6 +107,27 @@ impl PrefixSet {
         ensures err { OnErr result (self.new ≡ self.old) }
     {
         self.map.insert_each(prefixes)
+    }
+
+    // Changes a map, and puts in each prefix of two lists. All memory is taken before the first
+    // change.
+    pub(crate) fn note_each<V>(
+        &mut self,
+        other: &mut PrefixMap<V>,
+        removed: &[Prefix],
+        announced: &[Prefix],
+        value: Option<V>,
+    ) -> Result<(), AllocError>
+    where
+        V: Copy,
+        ensures ok { OnOk result (self.new
+            ≡ set.insert_all self.old (removed.now ++ announced.now)) }
+        ensures changed { OnOk result
+            (other.new ≡ put_each (remove_all other.old removed.now) announced.now value) }
+        ensures err { OnErr result (self.new ≡ self.old) }
+        ensures err_changed { OnErr result (other.new ≡ other.old) }
+    {
+        self.map.note_each(other, removed, announced, value)
     }
 
     // Changes a map, and puts in each prefix of two lists. All memory is taken before the first
