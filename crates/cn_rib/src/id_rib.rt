@@ -146,11 +146,7 @@ pub fn take_in_ids(
 }
 
 // What an update says of each prefix that it announces; none where it announces nothing.
-fn said(
-    alloc: Global,
-    pool: &mut Pool,
-    update: &Update,
-) -> Result<Option<Interned>, AllocError>
+fn said(alloc: Global, pool: &mut Pool, update: &Update) -> Result<Option<Interned>, AllocError>
     ensures said { IfOk result (λ said. IsSaid pool.new update.now said) }
     ensures kept { Extends pool.old pool.new }
 {

@@ -9,13 +9,19 @@
 //! counts what is left to do in numbered slots: that layer adds to a slot when work for it comes
 //! and takes away when it is done, or sets it to what is left, and `first` says where to go on.
 //!
+//! An `IdRib` keeps the routes of a session, in either direction, by the ids that a `Pool` of
+//! `cn_pool` gave to their paths. Under that pool it stands for an `AdjRib` (`routes_under` of
+//! `specs/Interned.antt`), and under a longer one for the same (`laws::same_routes`). Its `apply`
+//! and `take_in_ids` are those above, and take no memory for an update's rows but their places.
+//!
 //! Contracts see a map as std's `FinMap` over `prefix_cmp` of `cn_base`, a set as the `PrefixSet`
 //! of `specs/PrefixSet.antt`, the routes of a session as the `AdjRib` of `specs/Updates.antt`, and
 //! a tally as the list of its counts; how the rows lie in memory and how one is found appears in no
 //! contract of a public call. `apply_update` of `specs/Updates.antt` says what an update does.
 //! `proofs/Keyed.antt` has the laws of these maps and sets for the proofs of the layers above, and
-//! `proofs/Updates.antt` those of updates. Which routes are put in, the choice between them, and
-//! what a slot stands for, is left to those layers, and octets to `cn_wire`.
+//! `proofs/Updates.antt` those of updates, `proofs/Mapped.antt` and `proofs/IdRoutes.antt` those of
+//! maps under a function and of tables of ids. Which routes are put in, the choice between them,
+//! and what a slot stands for, is left to those layers, and octets to `cn_wire`.
 #![tactic(auto)]
 
 mod bits;

@@ -209,7 +209,8 @@ impl PrefixMap<()> {
     ) -> Result<(), AllocError>
     where
         V: Copy,
-        ensures ok { OnOk result (self.new ≡ set.insert_all self.old (removed.now ++ announced.now)) }
+        ensures ok { OnOk result (self.new
+            ≡ set.insert_all self.old (removed.now ++ announced.now)) }
         ensures changed { OnOk result
             (other.new ≡ put_each (remove_all other.old removed.now) announced.now value) }
         ensures err { OnErr result (self.new ≡ self.old) }

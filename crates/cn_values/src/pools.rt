@@ -13,9 +13,9 @@ enum Ask {
     // The paths of one number each, from 0 on, join, so many.
     JoinEach(u32),
     // So many copies of 7 are put in front of the path with this id.
-    Extend(u64, u8),
+    Extend(u32, u8),
     // The first number of the path with this id.
-    First(u64),
+    First(u32),
 }
 
 use Ask::{Extend, First, Join, JoinEach};
@@ -59,7 +59,7 @@ const CASES: &[(&str, &[Ask], &str)] = &[
 ];
 
 // The id that a pool gives to the path of these numbers.
-fn join(alloc: Global, pool: &mut Pool, numbers: &[u32]) -> Result<u64, Fail> {
+fn join(alloc: Global, pool: &mut Pool, numbers: &[u32]) -> Result<u32, Fail> {
     let mut made = Vec::new(alloc);
     for number in numbers {
         made.push(Asn(*number))?;
@@ -69,7 +69,7 @@ fn join(alloc: Global, pool: &mut Pool, numbers: &[u32]) -> Result<u64, Fail> {
 }
 
 // The last id that is given.
-fn join_each(alloc: Global, pool: &mut Pool, count: u32) -> Result<u64, Fail> {
+fn join_each(alloc: Global, pool: &mut Pool, count: u32) -> Result<u32, Fail> {
     let mut last = 0;
     for number in 0..count {
         last = join(alloc, pool, &[number])?;
@@ -77,15 +77,15 @@ fn join_each(alloc: Global, pool: &mut Pool, count: u32) -> Result<u64, Fail> {
     Ok(last)
 }
 
-fn extend(alloc: Global, pool: &mut Pool, id: u64, times: u8) -> Result<Option<PathId>, Fail> {
-    if id < pool.len() as u64 {
+fn extend(alloc: Global, pool: &mut Pool, id: u32, times: u8) -> Result<Option<PathId>, Fail> {
+    if u64::from(id) < pool.len() as u64 {
         Ok(pool.extended(alloc, PathId(id), Asn(7), times)?)
     } else {
         Err("no such id")?
     }
 }
 
-fn first(pool: &Pool, id: u64) -> Option<Asn> {
+fn first(pool: &Pool, id: u32) -> Option<Asn> {
     pool.path_of(PathId(id)).and_then(|path| path.get(0))
 }
 

@@ -18,6 +18,8 @@ invariant_of-self c =
     let at = rw c.self.view_is at c.index.ensures in
     let longer = longer_joined c.args.self.now c.intern.new.self _ step c.in-Ok.longer
     c.index.result.now c.in-Some-2.longer at made.0 made.1 c.self-2.view_is
-    c.in-Ok.ensures.ok in
-    (known_with _ _ _ step c.in-Ok.longer c.insert.result c.self-2.invariant.0 longer
-    c.insert.ensures.updates c.insert.ensures.err, c.self-2.invariant.1)
+    c.in-Ok.ensures.ok in (
+      known_with _ _ _ step c.in-Ok.longer c.insert.result c.self-2.invariant.0 longer
+          c.insert.ensures.updates c.insert.ensures.err,
+      c.self-2.invariant.1,
+    )

@@ -6,10 +6,11 @@ use Rattle.cn_pool.proofs.pool.Pool.intern.Goals.{in-Ok, in-Err}
 
 pub invariant_of-self : goal.invariant_of-self
 invariant_of-self c = elim c.match-insert_full.branch [
-  | in-Ok w ↦
-      (joined_pool c.self.inside.paths.keys c.args.path c.self.inside.longer _ c.self.invariant.0
-      (omega (arith, c.if-len-gt-MOST.false, c.len.ensures.len)) w.in-Ok.ensures.keys,
-      c.self.invariant.1)
+  | in-Ok w ↦ (
+    joined_pool c.self.inside.paths.keys c.args.path c.self.inside.longer _ c.self.invariant.0
+        (omega (arith, c.if-len-gt-MOST.false, c.len.ensures.len)) w.in-Ok.ensures.keys,
+    c.self.invariant.1,
+  )
   | in-Err w ↦
       (subst (λ ps. IsPool ps c.self.inside.longer) (sym w.in-Err.ensures.err) c.self.invariant.0, c.self.invariant.1)
 ]
