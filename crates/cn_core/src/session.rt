@@ -11,7 +11,7 @@ use crate::best::Best;
 use cn_base::{DeviceId, Items, Prefix};
 use cn_mail::Mailbox;
 use cn_pool::Pool;
-use cn_rib::{IdRib, PrefixMap, PrefixSet, take_in_ids};
+use cn_rib::{IdRib, PrefixMap, PrefixSet, take_in};
 use cn_wire::{Update, WireAnswer, decode, encode};
 use std::alloc::{AllocError, Global};
 
@@ -103,7 +103,7 @@ pub fn receive(
         Err(WireAnswer::Fault(_)) => return Ok(()),
         Err(WireAnswer::Memory) => return Err(AllocError),
     };
-    take_in_ids(alloc, pool, &mut session.adj_rib_in, &mut rib.dirty, &update)?;
+    take_in(alloc, pool, &mut session.adj_rib_in, &mut rib.dirty, &update)?;
     session.mail.pop();
     Ok(())
 }

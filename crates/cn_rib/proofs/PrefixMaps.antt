@@ -10,7 +10,7 @@ use Rattle.std.proofs.lemmas.List.{take-append-drop, take_all}
 use Rattle.cn_lists.proofs.Folding.{fold-append}
 use Rattle.cn_base.specs.Cidr.{Cidr, same_prefix}
 use Rattle.cn_base.specs.Table.{prefix_cmp}
-use Rattle.cn_rib.specs.PrefixMaps.{add_front, picked, picked_entries, put_all, put_at, remove_all}
+use Rattle.cn_rib.specs.PrefixMaps.{add_front, picked, picked_entries, put_at, remove_all}
 use Rattle.cn_rib.proofs.Keyed.{find_below, get_inserted, get_removed}
 use Rattle.cn_rib.proofs.Prefixes.{same_itself, same_tells, tied}
 use Rattle.cn_rib.proofs.Rows.{first_true, second_true}
@@ -58,16 +58,6 @@ module _ {X : Type 0} where
       either : (b : Bool) (x : Option X) → cond b x x ≡ x
       either true x = refl
       either false x = refl
-
--- ---- a map with more entries
-
-module _ {A X : Type 0} (entry : A → Cidr × X) where
-  -- one entry more
-  pub put_all-push : (m : FinMap prefix_cmp X) (xs : List A) (x : A)
-      → put_all m (map entry (xs ++ x ∷ []))
-      ≡ fin.insert (put_all m (map entry xs)) (entry x).0 (entry x).1
-  put_all-push m [] x = refl
-  put_all-push m (y ∷ xs) x = put_all-push (fin.insert m (entry y).0 (entry y).1) xs x
 
 -- ---- a map without prefixes
 

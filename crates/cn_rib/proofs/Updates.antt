@@ -10,8 +10,7 @@ use Rattle.cn_base.specs.Table.{prefix_cmp}
 use Rattle.cn_base.specs.declared.route.Attributes.{Attributes}
 use Rattle.cn_wire.specs.declared.update.Attrs.{Attrs}
 use Rattle.cn_wire.specs.declared.update.Update.{Update}
-use Rattle.cn_rib.specs.PrefixMaps.{put_all, remove_all}
-use Rattle.cn_rib.specs.Updates.{AdjRib, AppliedLaw, announce_all, apply_update, entries_said, prefixes_of, said_of, withdraw_all}
+use Rattle.cn_rib.specs.Updates.{AdjRib, AppliedLaw, announce_all, apply_update, prefixes_of, said_of, withdraw_all}
 use Rattle.cn_rib.proofs.Keyed.{get_inserted_all, get_removed_all}
 
 -- ---- the prefixes of an update
@@ -85,26 +84,3 @@ applied_elsewhere routes u p e =
     announced_elsewhere (withdraw_all routes u.withdrawn) u.attrs u.announced p outside.1
     ∙ get_withdrawn routes u.withdrawn p
     ∙ ap (λ b. cond b None (fin.get routes p)) outside.0
-
--- ---- an update, as entries that are put in
-
-put_each : {X : Type 0} (m : FinMap prefix_cmp X) (v : X) (ps : List Cidr)
-    → put_all m (map (λ p. (p, v)) ps) ≡ fold (λ n p. fin.insert n p v) m ps
-put_each m v [] = refl
-put_each m v (p ∷ ps) = put_each (fin.insert m p v) v ps
-
-put_said : (routes : AdjRib) (o : Option Attrs) (ps : List Cidr)
-    → put_all routes (entries_said o ps) ≡ announce_all routes o ps
-put_said routes None ps = refl
-put_said routes (Some a) ps = put_each routes (said_of a) ps
-
--- the routes without what an update withdraws, with the entries that it announces
-pub applied_by : (routes old : AdjRib) (u : Update) (ps : List Cidr) (es : List (Cidr × Attributes))
-    → routes ≡ old → ps ≡ u.withdrawn → es ≡ entries_said u.attrs u.announced
-    → put_all (remove_all routes ps) es ≡ apply_update old u
-unfolding apply_update
-applied_by routes old u ps es same withdrawn said =
-    ap (λ m. put_all (remove_all m ps) es) same
-    ∙ ap (λ qs. put_all (remove_all old qs) es) withdrawn
-    ∙ ap (put_all (remove_all old u.withdrawn)) said
-    ∙ put_said (withdraw_all old u.withdrawn) u.attrs u.announced

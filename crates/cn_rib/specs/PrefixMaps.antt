@@ -11,10 +11,6 @@ abbrev pub put_at : {X : Type 0} → FinMap prefix_cmp X → Cidr → Option X �
 put_at m p None = fin.remove m p
 put_at m p (Some v) = fin.insert m p v
 
--- the map with these entries, put in one after the other
-abbrev pub put_all : {X : Type 0} → FinMap prefix_cmp X → List (Cidr × X) → FinMap prefix_cmp X
-put_all m es = fold (λ n e. fin.insert n e.0 e.1) m es
-
 -- the map without these prefixes
 abbrev pub remove_all : {X : Type 0} → FinMap prefix_cmp X → List Cidr → FinMap prefix_cmp X
 remove_all m ps = fold fin.remove m ps

@@ -32,11 +32,6 @@ announce_all routes (Some a) ps = fold (λ m p. fin.insert m p (said_of a)) rout
 unfoldable pub apply_update : AdjRib → Update → AdjRib
 apply_update routes u = announce_all (withdraw_all routes u.withdrawn) u.attrs u.announced
 
--- the entries that attributes make for prefixes, one for each
-abbrev pub entries_said : Option Attrs → List Cidr → List (Cidr × Attributes)
-entries_said None ps = []
-entries_said (Some a) ps = map (λ p. (p, said_of a)) ps
-
 -- the prefixes of an update
 abbrev pub prefixes_of : Update → List Cidr
 prefixes_of u = u.withdrawn ++ u.announced

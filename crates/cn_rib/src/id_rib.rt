@@ -124,7 +124,7 @@ impl IdRib {
 /// Applies an update to what came in, and puts each of its prefixes into the set of those for which
 /// a decision is due (RFC 4271, 9.1). After an error both are as before, and the pool may have the
 /// path of the update.
-pub fn take_in_ids(
+pub fn take_in(
     alloc: Global,
     pool: &mut Pool,
     routes: &mut IdRib,

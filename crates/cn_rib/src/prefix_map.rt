@@ -7,7 +7,7 @@ ghost use Rattle.std.specs.FinMap.Entries.{put};
 ghost use Rattle.std.specs.List.Sorted.{IsBinarySearchResult, IsSearchInRange};
 ghost use Rattle.std.specs.Vec.{vec_len, vec_capacity};
 ghost use Rattle.cn_base.specs.Table.{prefix_cmp};
-ghost use Rattle.cn_rib.specs.PrefixMaps.{put_all, put_each, remove_all};
+ghost use Rattle.cn_rib.specs.PrefixMaps.{put_each, remove_all};
 ghost use Rattle.cn_rib.specs.PrefixSet as set;
 
 use cn_base::Prefix;
@@ -152,26 +152,6 @@ impl<V> PrefixMap<V> {
         }
         Ok(())
     }
-
-    // Takes each of these prefixes out, and then puts each of these rows in. All memory is taken
-    // before the first.
-    pub(crate) fn change(
-        &mut self,
-        removed: &[Prefix],
-        added: Vec<Row<V>>,
-    ) -> Result<(), AllocError>
-    where
-        V: Drop,
-        ensures ok { OnOk result (self.new
-            ≡ put_all (remove_all self.old removed.now)
-            (map (λ r. (r.prefix, r.value)) added.items)) }
-        ensures err { OnErr result (self.new ≡ self.old) }
-    {
-        self.rows.reserve(added.len())?;
-        take_all_out(&mut self.rows, removed);
-        put_all_in(&mut self.rows, added);
-        Ok(())
-    }
 }
 
 impl PrefixMap<()> {
@@ -218,32 +198,6 @@ impl PrefixMap<()> {
     {
         self.rows.reserve(removed.len() + announced.len())?;
         other.change_each(removed, announced, value)?;
-        note_all(&mut self.rows, removed);
-        note_all(&mut self.rows, announced);
-        Ok(())
-    }
-
-    // Changes another map, and puts in each prefix of two lists. All memory is taken before the
-    // first change.
-    pub(crate) fn note_change<V>(
-        &mut self,
-        other: &mut PrefixMap<V>,
-        removed: &[Prefix],
-        announced: &[Prefix],
-        added: Vec<Row<V>>,
-    ) -> Result<(), AllocError>
-    where
-        V: Drop,
-        ensures ok { OnOk result (self.new
-            ≡ set.insert_all self.old (removed.now ++ announced.now)) }
-        ensures changed { OnOk result (other.new
-            ≡ put_all (remove_all other.old removed.now)
-            (map (λ r. (r.prefix, r.value)) added.items)) }
-        ensures err { OnErr result (self.new ≡ self.old) }
-        ensures err_changed { OnErr result (other.new ≡ other.old) }
-    {
-        self.rows.reserve(removed.len() + announced.len())?;
-        other.change(removed, added)?;
         note_all(&mut self.rows, removed);
         note_all(&mut self.rows, announced);
         Ok(())
@@ -345,22 +299,6 @@ where
     let front = take_front_out(rows, prefixes);
     for prefix in &prefixes[front..] {
         take_out(rows, prefix);
-    }
-}
-
-// Puts each of these rows in, for which there is room.
-fn put_all_in<V>(rows: &mut Vec<Row<V>>, added: Vec<Row<V>>)
-where
-    V: Drop,
-    requires sorted { T (is_sorted prefix_cmp (map (λ r. (r.prefix, r.value)) rows.old.items)) }
-    requires room { vec_len rows.old + vec_len added ≤ vec_capacity rows.old }
-    ensures sorted { T (is_sorted prefix_cmp (map (λ r. (r.prefix, r.value)) rows.new.items)) }
-    ensures value { from_sorted {R = prefix_cmp} (map (λ r. (r.prefix, r.value)) rows.new.items)
-        ≡ put_all (from_sorted (map (λ r. (r.prefix, r.value)) rows.old.items))
-        (map (λ r. (r.prefix, r.value)) added.items) }
-{
-    for row in added {
-        put(rows, row.prefix, row.value).unwrap();
     }
 }
 

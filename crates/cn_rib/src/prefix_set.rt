@@ -3,7 +3,7 @@
 ghost use Rattle.std.specs.Prelude.{◌≡◌, ◌==◌, ◌++◌, IfOk, OnOk, OnErr, map};
 ghost use Rattle.std.specs.List.{fold};
 ghost use Rattle.std.specs.FinMap as fin;
-ghost use Rattle.cn_rib.specs.PrefixMaps.{put_all, put_each, remove_all};
+ghost use Rattle.cn_rib.specs.PrefixMaps.{put_each, remove_all};
 ghost use Rattle.cn_rib.specs.PrefixSet as set;
 
 use crate::prefix_map::{PrefixMap, Row};
@@ -128,28 +128,6 @@ impl PrefixSet {
         ensures err_changed { OnErr result (other.new ≡ other.old) }
     {
         self.map.note_each(other, removed, announced, value)
-    }
-
-    // Changes a map, and puts in each prefix of two lists. All memory is taken before the first
-    // change.
-    pub(crate) fn note_change<V>(
-        &mut self,
-        other: &mut PrefixMap<V>,
-        removed: &[Prefix],
-        announced: &[Prefix],
-        added: Vec<Row<V>>,
-    ) -> Result<(), AllocError>
-    where
-        V: Drop,
-        ensures ok { OnOk result (self.new
-            ≡ set.insert_all self.old (removed.now ++ announced.now)) }
-        ensures changed { OnOk result (other.new
-            ≡ put_all (remove_all other.old removed.now)
-            (map (λ r. (r.prefix, r.value)) added.items)) }
-        ensures err { OnErr result (self.new ≡ self.old) }
-        ensures err_changed { OnErr result (other.new ≡ other.old) }
-    {
-        self.map.note_change(other, removed, announced, added)
     }
 
     /// Puts in each prefix of a map. It takes all memory before the first.

@@ -1,8 +1,9 @@
-//! What came in and what was sent over a session, after updates.
+//! What came in or was sent over a session, after updates.
 
 use crate::words::{prefix, same};
-use cn_base::{AsPath, Asn, Attributes, Items, Origin, Prefix};
-use cn_rib::{PrefixSet, RibIn, RibOut, Row, take_in};
+use cn_base::{AsPath, Asn, Items, Origin, Prefix};
+use cn_pool::Pool;
+use cn_rib::{IdRib, Interned, PrefixSet, Row, take_in};
 use cn_wire::{Attrs, Update};
 use std::alloc::Global;
 use std::test::Fail;
@@ -88,11 +89,11 @@ fn told(alloc: Global, prefix: &Prefix) -> Result<String, Fail> {
     Ok(format!(in alloc; " {}/{len}", bits >> 24)?)
 }
 
-fn rows_told(alloc: Global, rows: &[Row<Attributes>]) -> Result<String, Fail> {
+fn rows_told(alloc: Global, pool: &Pool, rows: &[Row<Interned>]) -> Result<String, Fail> {
     let mut text = String::new(alloc);
     for row in rows {
         text.push_str(&told(alloc, &row.prefix)?)?;
-        let number = row.value.path.get(0).ok_or("no number")?;
+        let number = pool.path(row.value.path).get(0).ok_or("no number")?;
         text.push_str(&format!(in alloc; " {}", number.0)?)?;
     }
     Ok(text)
@@ -106,34 +107,22 @@ fn set_told(alloc: Global, set: &PrefixSet) -> Result<String, Fail> {
     Ok(text)
 }
 
-// What came in, and what waits for a decision.
-fn came(alloc: Global, saying: Saying) -> Result<String, Fail> {
-    let mut routes = RibIn::new(alloc);
-    routes.apply(alloc, &update_of(alloc, FIRST)?)?;
-    let mut dirty = PrefixSet::new(alloc);
-    take_in(alloc, &mut routes, &mut dirty, &update_of(alloc, saying)?)?;
-    let (len, none, rows) = (
-        routes.len(),
-        routes.is_empty(),
-        rows_told(alloc, routes.rows())?,
-    );
-    Ok(format!(in alloc; "{len} {none}:{rows};{}", set_told(alloc, &dirty)?)?)
-}
-
-// The same of what was sent.
-fn sent(alloc: Global, saying: Saying) -> Result<String, Fail> {
-    let mut routes = RibOut::new(alloc);
-    routes.apply(alloc, &update_of(alloc, FIRST)?)?;
+// The routes, and the prefixes of the update, after it was applied, or taken in.
+fn after(alloc: Global, taken_in: bool, saying: Saying) -> Result<String, Fail> {
+    let mut pool = Pool::new(alloc);
+    let mut routes = IdRib::new(alloc);
+    routes.apply(alloc, &mut pool, &update_of(alloc, FIRST)?)?;
     let update = update_of(alloc, saying)?;
-    routes.apply(alloc, &update)?;
     let mut named = PrefixSet::new(alloc);
-    named.insert_each(update.withdrawn.items())?;
-    named.insert_each(update.announced.items())?;
-    let (len, none, rows) = (
-        routes.len(),
-        routes.is_empty(),
-        rows_told(alloc, routes.rows())?,
-    );
+    if taken_in {
+        take_in(alloc, &mut pool, &mut routes, &mut named, &update)?;
+    } else {
+        routes.apply(alloc, &mut pool, &update)?;
+        named.insert_each(update.withdrawn.items())?;
+        named.insert_each(update.announced.items())?;
+    }
+    let (len, none) = (routes.len(), routes.is_empty());
+    let rows = rows_told(alloc, &pool, routes.rows())?;
     Ok(format!(in alloc; "{len} {none}:{rows};{}", set_told(alloc, &named)?)?)
 }
 
@@ -146,55 +135,39 @@ const PLACES: &[(usize, &str)] = &[
 ];
 
 fn at(alloc: Global, place: usize) -> Result<String, Fail> {
-    let update = update_of(alloc, FIRST)?;
-    let mut routes = RibIn::new(alloc);
-    routes.apply(alloc, &update)?;
+    let mut pool = Pool::new(alloc);
+    let mut routes = IdRib::new(alloc);
+    routes.apply(alloc, &mut pool, &update_of(alloc, FIRST)?)?;
     Ok(format!(in alloc; "{:?}", routes.prefix_at(place))?)
 }
 
-fn sent_at(alloc: Global, place: usize) -> Result<String, Fail> {
-    let update = update_of(alloc, FIRST)?;
-    let mut routes = RibOut::new(alloc);
-    routes.apply(alloc, &update)?;
-    Ok(format!(in alloc; "{:?}", routes.prefix_at(place))?)
-}
-
-// Whether there is a route to a prefix after FIRST, and after all routes were taken out.
+// The number of the route to a prefix after FIRST, and whether there is one after all routes were
+// taken out.
 fn has(alloc: Global, bits: Bits) -> Result<String, Fail> {
-    let (update, prefix) = (update_of(alloc, FIRST)?, prefix(bits)?);
-    let mut came = RibIn::new(alloc);
-    let mut sent = RibOut::new(alloc);
-    came.apply(alloc, &update)?;
-    sent.apply(alloc, &update)?;
-    let before = (came.get(&prefix).is_some(), sent.get(&prefix).is_some());
-    came.clear();
-    sent.clear();
-    let after = (came.get(&prefix).is_some(), sent.get(&prefix).is_some());
-    Ok(format!(in alloc; "{before:?} {after:?}")?)
+    let prefix = prefix(bits)?;
+    let mut pool = Pool::new(alloc);
+    let mut routes = IdRib::new(alloc);
+    routes.apply(alloc, &mut pool, &update_of(alloc, FIRST)?)?;
+    let before = match routes.get(&pool, &prefix) {
+        Some((path, _)) => path.get(0),
+        None => None,
+    };
+    routes.clear();
+    let after = routes.at(&prefix).is_some();
+    Ok(format!(in alloc; "{before:?} {after}")?)
 }
 
 #[test]
 fn updates_are_applied(rt: HostRuntime) -> Result<(), Fail> {
     let alloc = rt.alloc();
     for (case, saying, text) in UPDATES {
-        same(&rt, case, &came(alloc, *saying)?, text);
-        same(&rt, case, &sent(alloc, *saying)?, text);
+        same(&rt, case, &after(alloc, true, *saying)?, text);
+        same(&rt, case, &after(alloc, false, *saying)?, text);
     }
     for (place, text) in PLACES {
         same(&rt, text, &at(alloc, *place)?, text);
-        same(&rt, text, &sent_at(alloc, *place)?, text);
     }
-    same(
-        &rt,
-        "a route",
-        &has(alloc, TEN)?,
-        "(true, true) (false, false)",
-    );
-    same(
-        &rt,
-        "no route",
-        &has(alloc, NINE)?,
-        "(false, false) (false, false)",
-    );
+    same(&rt, "a route", &has(alloc, TEN)?, "Some(Asn(1)) false");
+    same(&rt, "no route", &has(alloc, NINE)?, "None false");
     Ok(())
 }

@@ -1,6 +1,6 @@
 use Rattle.std.proofs.lemmas.Result.{on_ok_weaker}
 use Rattle.cn_rib.proofs.IdRoutes.{applied_of, under_after}
-use Rattle.cn_rib.proofs.id_rib.take_in_ids.Goals as goal
+use Rattle.cn_rib.proofs.id_rib.take_in.Goals as goal
 
 pub returns-clause-ok : goal.returns-clause-ok
 returns-clause-ok c =
