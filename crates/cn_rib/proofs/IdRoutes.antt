@@ -1,5 +1,5 @@
 -- Tables of ids under a pool, and updates that change them. Other crates may cite these.
-use Rattle.std.proofs.Common.{◌≡◌, ◌<◌, Bool, true, false, cond, List, [], ◌∷◌, length, Option, Some, None, refl, sym, ap, ◌∙◌, subst, arith}
+use Rattle.std.proofs.Common.{◌≡◌, ◌<◌, Bool, true, false, cond, List, length, Option, Some, None, sym, ap, ◌∙◌, subst, arith}
 use Rattle.std.specs.Prelude.{Err, Ok, OnErr, OnOk, Result, option_map}
 use Rattle.std.specs.List.{list_any}
 use Rattle.std.specs.FinMap as fin

@@ -1,5 +1,5 @@
 -- What maps that are made of another have at each prefix.
-use Rattle.std.proofs.Common.{◌≡◌, ℕ, ◌-◌, ◌≤◌, Bool, true, false, cond, List, [], ◌∷◌, ◌++◌, arith, drop, length, length-drop, map, take, Option, Some, None, refl, sym, ap, ◌∙◌, inl, inr}
+use Rattle.std.proofs.Common.{◌≡◌, ℕ, ◌-◌, ◌≤◌, Bool, true, false, cond, List, [], ◌∷◌, arith, drop, length, length-drop, take, Option, Some, None, refl, sym, ap, ◌∙◌, inl, inr}
 use Rattle.std.specs.Prelude.{◌&&◌, ◌||◌, T, option_and_then}
 use Rattle.std.specs.List.{fold, list_any}
 use Rattle.std.specs.FinMap.{FinMap}

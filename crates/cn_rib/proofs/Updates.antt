@@ -1,13 +1,10 @@
 -- What a session's routes are after an update, at each prefix. Other crates may cite these.
-use Rattle.std.proofs.Common.{◌≡◌, Bool, true, false, cond, List, [], ◌∷◌, map, Option, Some, None, refl, sym, ap, ◌∙◌}
+use Rattle.std.proofs.Common.{◌≡◌, Bool, true, false, cond, List, Option, Some, None, refl, sym, ap, ◌∙◌}
 use Rattle.std.specs.Prelude.{◌||◌}
-use Rattle.std.specs.List.{fold, list_any}
-use Rattle.std.specs.FinMap.{FinMap}
+use Rattle.std.specs.List.{list_any}
 use Rattle.std.specs.FinMap as fin
 use Rattle.std.proofs.lemmas.List.Folds.{list_any-append}
 use Rattle.cn_base.specs.Cidr.{Cidr, same_prefix}
-use Rattle.cn_base.specs.Table.{prefix_cmp}
-use Rattle.cn_base.specs.declared.route.Attributes.{Attributes}
 use Rattle.cn_wire.specs.declared.update.Attrs.{Attrs}
 use Rattle.cn_wire.specs.declared.update.Update.{Update}
 use Rattle.cn_rib.specs.Updates.{AdjRib, AppliedLaw, announce_all, apply_update, prefixes_of, said_of, withdraw_all}

@@ -1,5 +1,5 @@
 -- What an UPDATE does to the routes of a session (RFC 4271, 3.1, 3.2 and 4.3).
-use Rattle.std.specs.Prelude.{◌≡◌, ◌++◌, false, List, [], map, Option, Some, None}
+use Rattle.std.specs.Prelude.{◌≡◌, ◌++◌, false, List, Option, Some, None}
 use Rattle.std.specs.List.{fold, list_any}
 use Rattle.std.specs.FinMap.{FinMap}
 use Rattle.std.specs.FinMap as fin
