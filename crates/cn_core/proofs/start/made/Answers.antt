@@ -1,10 +1,8 @@
-use Rattle.std.proofs.Common.{length, map, ap, ◌∙◌, sym, subst, arith}
+use Rattle.std.proofs.Common.{length, map, ap, ◌∙◌, subst, arith}
 use Rattle.std.proofs.lemmas.List.{length-map}
 use Rattle.cn_net.specs.Limits.{session_count}
 use Rattle.cn_net.specs.Opening.{Opening}
 use Rattle.cn_net.specs.Sessions.{session_ends}
-use Rattle.cn_core.specs.declared.session.Rib.{Rib}
-use Rattle.cn_core.specs.declared.session.Session.{Session}
 use Rattle.cn_core.specs.OwedLists.{AreListed, count_of}
 use Rattle.cn_core.specs.Start.{start}
 use Rattle.cn_core.specs.Stored.{Stored, rib_under, session_under, stands_for}
