@@ -1,10 +1,10 @@
 -- What is held at the start, made one route after another while the pool grows.
-use Rattle.std.proofs.Common.{◌≡◌, ℕ, ◌+◌, ◌<◌, ◌≤◌, Bool, true, false, cond, List, [], ◌∷◌, ◌++◌, ◌-◌, length, get_or, map, drop, Option, Some, None, refl, sym, ap, ◌∙◌, subst, arith}
+use Rattle.std.proofs.Common.{◌≡◌, ℕ, ◌+◌, ◌<◌, ◌≤◌, Bool, true, false, cond, List, [], ◌∷◌, ◌++◌, ◌-◌, length, get_or, map, drop, Option, Some, refl, sym, ap, ◌∙◌, subst, arith}
 use Rattle.std.specs.Prelude.{All, IfSome, slice_get}
 use Rattle.std.specs.List.{fold}
 use Rattle.std.specs.FinMap as fin
 use Rattle.std.proofs.lemmas.List.{drop_all, drop_more, get_or-map, length-map, map-append}
-use Rattle.std.proofs.lemmas.List.Elements.{All-map, All-nil, All-push}
+use Rattle.std.proofs.lemmas.List.Elements.{All-map, All-push}
 use Rattle.cn_base.specs.Cidr.{Cidr, same_prefix}
 use Rattle.cn_base.specs.declared.ids.Asn.{Asn}
 use Rattle.cn_base.specs.declared.ids.DeviceId.{DeviceId}
@@ -27,8 +27,8 @@ use Rattle.cn_core.specs.declared.best.Best.{Best}
 use Rattle.cn_core.specs.declared.session.Rib.{Rib}
 use Rattle.cn_core.specs.declared.session.Session.{Session}
 use Rattle.cn_core.specs.Start.{first_rib, first_ribs, first_sessions, rows_of, said_routes, with_choice}
-use Rattle.cn_core.specs.State.{LocRib, RibState, SessionState, empty_session}
-use Rattle.cn_core.specs.Stored.{AreUnder, BestRoutes, IsHeldUnder, IsSessionUnder, choice_under, held_under, rib_under, session_under, unsent}
+use Rattle.cn_core.specs.State.{LocRib, SessionState, empty_session}
+use Rattle.cn_core.specs.Stored.{BestRoutes, IsHeldUnder, IsSessionUnder, choice_under, held_under, rib_under, session_under, unsent}
 use Rattle.cn_core.proofs.Counted.{dirty_of}
 use Rattle.cn_core.proofs.Numbers.{ids, mapped_next}
 use Rattle.cn_core.proofs.Under.{are_ribs_longer, held_longer, is_held_longer, no_best_under, ribs_longer}

@@ -45,13 +45,6 @@ all_empty P p o =
     All-map P (λ (e : SessionEnds). empty_session e.from e.to) es
     (λ k d lt. p (get_or es k d).from (get_or es k d).to)
 
--- the sessions that are made by an index are the first
-pub sessions-made : (o : Opening) (index : List SessionEnds) (xs : List SessionState)
-    → index ≡ session_ends o.net o.emulated → xs ≡ map (λ e. empty_session e.from e.to) index
-    → xs ≡ first_sessions o
-unfolding first_sessions
-sessions-made o index xs is made = made ∙ ap (map (λ e. empty_session e.from e.to)) is
-
 -- the sessions at the start have the ends of all sessions
 first_ends : (o : Opening) → ends_of (first_sessions o) ≡ session_ends o.net o.emulated
 unfolding first_sessions

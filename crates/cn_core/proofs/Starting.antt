@@ -1,5 +1,5 @@
 -- What the engine keeps is right at the start.
-use Rattle.std.proofs.Common.{◌≡◌, ℕ, ◌≤◌, List, [], ◌∷◌, length, map, replicate, refl, sym, ap, ◌∙◌, subst, arith}
+use Rattle.std.proofs.Common.{◌≡◌, ℕ, ◌≤◌, List, [], ◌∷◌, length, map, replicate, refl, sym, ap, ◌∙◌, arith}
 use Rattle.std.proofs.lemmas.List.{length-map}
 use Rattle.cn_net.specs.Limits.{session_count}
 use Rattle.cn_net.specs.Sessions.{session_ends}
@@ -8,7 +8,7 @@ use Rattle.cn_net.proofs.SessionCount.{as_many_sessions}
 use Rattle.cn_record.specs.Recorded.{IsRecorded, RecordedOpening}
 use Rattle.cn_core.specs.declared.owed.Owed.{Owed}
 use Rattle.cn_core.specs.OwedLists.{AreListed, IsRight, count_of}
-use Rattle.cn_core.specs.Start.{first_ribs, first_sessions, start}
+use Rattle.cn_core.specs.Start.{ends_of, first_ribs, first_sessions}
 use Rattle.cn_core.specs.State.{RibState, SessionState, empty_session}
 use Rattle.cn_core.proofs.Access.{ends_of-empty}
 use Rattle.cn_core.proofs.Counted.{dirty_of, mail_of, right_of}
@@ -35,25 +35,25 @@ pub started : (r : RecordedOpening) → IsRecorded r → (index : List SessionEn
     → index ≡ session_ends r.opening.net r.opening.emulated → ss ≡ first_sessions r.opening
     → rs ≡ first_ribs r → AreListed (state_of r.opening ss rs) os → mail ≡ replicate slots 0
     → slots ≡ session_count r.opening.net r.opening.emulated → slots ≤ 32768
-    → owed ≡ map count_of os → dirty ≡ map dirty_of rs → IsRight (start r) index os mail owed dirty
-unfolding start first_sessions
+    → owed ≡ map count_of os → dirty ≡ map dirty_of rs
+    → IsRight (state_of r.opening ss rs) index os mail owed dirty
+unfolding first_sessions
 started r recorded index ss rs os mail owed dirty slots ends sessions ribs listed mails count few
     owes dirties =
     let o = r.opening in
     let es = session_ends o.net o.emulated in
     let many = as_many_sessions o.net o.emulated recorded.opening.valid in
-    right_of (state_of o (first_sessions o) (first_ribs r)) index os mail owed dirty
+    right_of (state_of o ss rs) index os mail owed dirty
     (record {
-      whole =
-          start_whole r recorded o (first_sessions o) (first_ribs r) refl refl refl;
-      indexed = ends ∙ sym (ends_of-empty es);
-      listed =
-          subst (λ (t : List SessionState × List RibState). AreListed (state_of o t.0 t.1) os)
-          (λ i. (sessions i, ribs i)) listed;
+      whole = start_whole r recorded o ss rs refl sessions ribs;
+      indexed = ends ∙ sym (ap ends_of sessions ∙ ends_of-empty es);
+      listed = listed;
     })
     (record {
-      mail = mails ∙ ap (λ n. replicate n 0) (count ∙ sym many) ∙ no_mail es;
+      mail =
+          mails ∙ ap (λ n. replicate n 0) (count ∙ sym many) ∙ no_mail es
+          ∙ sym (ap (map mail_of) sessions);
       owed = owes;
-      dirty = dirties ∙ ap (map dirty_of) ribs;
-      few = omega (arith, many_sessions r recorded, count, few);
+      dirty = dirties;
+      few = omega (arith, ap length sessions, many_sessions r recorded, count, few);
     })

@@ -257,17 +257,17 @@ struct Parts {
 // What the start is made of.
 fn made(alloc: Global, recorded: &Recorded) -> Result<Parts, AllocError>
     ensures start { IfOk result (λ made. stands_for (record {
-          now = recorded.now.opening;
-          pool = made.pool;
-          sessions = made.sessions.items;
-          ribs = made.ribs.items;
-        }) ≡ start recorded.now) }
+      now = recorded.now.opening;
+      pool = made.pool;
+      sessions = made.sessions.items;
+      ribs = made.ribs.items;
+    }) ≡ start recorded.now) }
     ensures right { IfOk result (λ made. IsKeptRight (record {
-          now = recorded.now.opening;
-          pool = made.pool;
-          sessions = made.sessions.items;
-          ribs = made.ribs.items;
-        }) made.index made.owed.items made.in_mail made.in_lists made.in_ribs) }
+      now = recorded.now.opening;
+      pool = made.pool;
+      sessions = made.sessions.items;
+      ribs = made.ribs.items;
+    }) made.index made.owed.items made.in_mail made.in_lists made.in_ribs) }
     ensures emulated { IfOk result (λ made. made.emulated ≡ recorded.now.opening.emulated) }
 {
     recorded.valid();

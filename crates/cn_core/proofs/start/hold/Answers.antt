@@ -1,4 +1,4 @@
-use Rattle.std.proofs.Common.{Option, Some, None, ap, sym, ◌∙◌, subst}
+use Rattle.std.proofs.Common.{ap, sym, ◌∙◌, subst}
 use Rattle.std.specs.Prelude.{option_copied}
 use Rattle.std.proofs.lemmas.Result.{on_ok_weaker}
 use Rattle.cn_core.specs.Start.{with_choice}

@@ -1,8 +1,8 @@
-use Rattle.std.proofs.Common.{◌≡◌, true, cond, sym, ap, ◌∙◌}
+use Rattle.std.proofs.Common.{◌≡◌, true, cond, ap, ◌∙◌}
 use Rattle.std.proofs.lemmas.Result.{IfOk-weaker}
 use Rattle.cn_net.specs.Islands.{holds_device}
 use Rattle.cn_net.specs.Opening.{Opening}
-use Rattle.cn_core.specs.Start.{emulated_rib, first_rib, speaker_rib}
+use Rattle.cn_core.specs.Start.{emulated_rib, speaker_rib}
 use Rattle.cn_core.proofs.FirstHeld.{none_held}
 use Rattle.cn_core.proofs.start.rib.Goals as goal
 
