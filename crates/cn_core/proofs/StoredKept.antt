@@ -1,6 +1,7 @@
 -- What the engine keeps is right after each event, of the state as it lies in memory.
 use Rattle.std.proofs.Common.{◌≡◌, ℕ, ◌<◌, List, [], length, get_or, map, set, refl, sym, ap, ◌∙◌, subst, arith}
-use Rattle.std.specs.Prelude.{All, Err, Ok, OnErr, Option, Result, option_map}
+use Rattle.std.specs.Prelude.{All, Bool, Err, Ok, OnErr, Option, Result, Some, option_map}
+use Rattle.std.specs.List.{find}
 use Rattle.std.specs.FinMap as fin
 use Rattle.std.proofs.lemmas.List.{get_or-map, length-map, map-set, set-get_or}
 use Rattle.std.proofs.lemmas.List.Elements.{All-set}
@@ -379,3 +380,15 @@ module _ (nn : Opening) (pool : List (List Asn)) (xs : List Session) (ys : List 
   in_ribs b inside =
       subst (λ (t : Stored). b < length t.ribs) (sym v)
       (subst (λ n. b < n) (length-map s.ribs (rib_under s.pool)) inside)
+
+  -- the first session that passes a test, which was read
+  pub found-now : (t : CoreState → SessionState → Bool) (i : ℕ) (x : Session) → i < length xs
+      → x ≡ get_or xs i x
+      → find (t (stands_for (stored nn pool xs ys))) (map (session_under pool) xs)
+      ≡ Some (get_or (map (session_under pool) xs) i (session_under pool x))
+      → Some (session_under s.pool x) ≡ find (t (stands_for s)) (stands_for s).sessions
+  found-now t i x inside read found =
+      ap (λ (z : Stored). Some (session_under z.pool x)) (sym v)
+      ∙ ap Some (read-under (session_under pool) xs i x inside read)
+      ∙ sym found
+      ∙ ap (λ (z : Stored). find (t (stands_for z)) (stands_for z).sessions) v
