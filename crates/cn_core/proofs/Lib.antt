@@ -43,3 +43,4 @@ pub mod Listed
 pub mod Composed
 mod Paths
 pub mod Under
+pub mod StoredReads
