@@ -1,4 +1,4 @@
-use Rattle.std.proofs.Common.{◌≡◌, ◌<◌, length, sym, ap, ◌∙◌, subst}
+use Rattle.std.proofs.Common.{◌<◌, length, sym, ap, ◌∙◌, subst}
 use Rattle.std.specs.Prelude.{IfSome, option_map}
 use Rattle.std.specs.FinMap as fin
 use Rattle.cn_net.specs.Candidates.{rank_of}
@@ -41,7 +41,8 @@ returns-then-not-accepts_path-clause-better c =
     let at = found_session s here.from d (session_under n.pool here) c.requires.there in
     let path = c.path.ensures ∙ ap (λ (t : Stored). path_under t.pool route.path) c.self.view_is in
     let net = c.net-net.ensures ∙ ap (λ (t : Stored). t.now.net) c.self.view_is in
-    better-refused s d p here.from (learnt_choice n.pool c.args.best) (attributes_under n.pool route)
+    better-refused s d p here.from (learnt_choice n.pool c.args.best)
+    (attributes_under n.pool route)
     (ap (option_map (attributes_under n.pool)) (sym c.in-Some.is ∙ c.at.ensures)
     ∙ sym (get-came n.pool here p)
     ∙ ap (λ (x : SessionState). fin.get x.adj_rib_in p) (sym at))

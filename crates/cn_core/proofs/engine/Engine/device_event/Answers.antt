@@ -19,7 +19,8 @@ returns-in_err-session c =
     subst (λ (t : Stored). IsWhole (stands_for t)) c.self.view_is c.self.invariant.right.whole in
     let clean : set.least (rib s d).dirty ≡ None = sym c.least_dirty.ensures ∙ c.in_default.is in
     let none : find (owes s) s.sessions ≡ None =
-    sym c.debtor.ensures ∙ ap (λ o. option_map (session_under n.pool) (option_copied o)) c.in_err-session.was in
+    sym c.debtor.ensures
+    ∙ ap (λ o. option_map (session_under n.pool) (option_copied o)) c.in_err-session.was in
     c.from_residual.ensures
     ∙ sym (ap (device_event s d) clean
     ∙ ap (option_map send_over) (pending-sends s whole d c.requires.first clean ∙ none))
@@ -34,6 +35,7 @@ returns c =
     subst (λ (t : Stored). IsWhole (stands_for t)) c.self.view_is c.self.invariant.right.whole in
     let clean : set.least (rib s d).dirty ≡ None = sym c.least_dirty.ensures ∙ c.in_default.is in
     let found : find (owes s) s.sessions ≡ Some x =
-    sym c.debtor.ensures ∙ ap (λ o. option_map (session_under n.pool) (option_copied o)) c.in_ok-session.was in
+    sym c.debtor.ensures
+    ∙ ap (λ o. option_map (session_under n.pool) (option_copied o)) c.in_ok-session.was in
     sym (ap (device_event s d) clean
     ∙ ap (option_map send_over) (pending-sends s whole d c.requires.first clean ∙ found))

@@ -1,4 +1,4 @@
-use Rattle.std.proofs.Common.{◌∙◌, ap, subst, sym}
+use Rattle.std.proofs.Common.{◌∙◌, subst, sym}
 use Rattle.cn_net.specs.Network.{device_ids}
 use Rattle.cn_core.specs.OwedLists.{IsRight}
 use Rattle.cn_core.specs.Stored.{Stored, stands_for}

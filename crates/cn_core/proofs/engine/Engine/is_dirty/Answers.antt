@@ -18,7 +18,8 @@ returns-in-Some c =
     let y = c.in-Some.rib.now in
     let here : c.deref.result.now ≡ n.ribs =
     c.deref.ensures.value ∙ ap (λ (t : Stored). t.ribs) c.self.view_is in
-    let there : d.0 < length c.deref.result.now = grind (arith, nat_tests, c.in-Some.ensures.lookup.0) in
+    let there : d.0 < length c.deref.result.now =
+    grind (arith, nat_tests, c.in-Some.ensures.lookup.0) in
     let within : d.0 < length s.ribs =
     omega (arith, there, ap length here, length-map n.ribs (rib_under n.pool)) in
     let read : y ≡ get_or n.ribs d.0 y =

@@ -1,8 +1,8 @@
-use Rattle.std.proofs.Common.{ap, ◌∙◌, ◌<◌, length, sym, subst}
+use Rattle.std.proofs.Common.{ap, ◌<◌, sym, subst}
 use Rattle.std.proofs.lemmas.List.{length-map}
 use Rattle.cn_core.specs.Stored.{session_under, stands_for}
 use Rattle.cn_core.proofs.Counted.{laid_of}
-use Rattle.cn_core.proofs.ListsKept.{owes-listed, state_of}
+use Rattle.cn_core.proofs.ListsKept.{owes-listed}
 use Rattle.cn_core.proofs.engine.Engine.owes.Goals as goal
 
 pub returns : goal.returns

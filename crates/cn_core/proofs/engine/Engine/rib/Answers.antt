@@ -1,4 +1,4 @@
-use Rattle.std.proofs.Common.{◌≡◌, ◌<◌, ◌∙◌, arith, get_or, length, ap, subst, refl}
+use Rattle.std.proofs.Common.{◌≡◌, ◌∙◌, arith, get_or, length, ap, subst, refl}
 use Rattle.std.proofs.lemmas.List.{length-map}
 use Rattle.cn_core.specs.Stored.{Stored, rib_under, stands_for}
 use Rattle.cn_core.specs.Whole.{IsWhole}

@@ -1,4 +1,4 @@
-use Rattle.std.proofs.Common.{◌≡◌, ◌<◌, [], ◌∷◌, ◌++◌, length, Result, Ok, Err, sym, ap, ◌∙◌, true≢false}
+use Rattle.std.proofs.Common.{◌≡◌, [], ◌∷◌, ◌++◌, Result, Ok, Err, sym, ap, ◌∙◌, true≢false}
 use Rattle.std.specs.Prelude.{IsOk, OnOk}
 use Rattle.cn_rib.proofs.IdRoutes.{same_routes, under_longer}
 use Rattle.cn_core.proofs.session.Session.put_out.Goals as goal
