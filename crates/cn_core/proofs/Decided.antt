@@ -2,11 +2,11 @@
 use Rattle.std.proofs.Common.{◌≡◌, ℕ, ◌+◌, ◌<◌, true, false, cond, List, [], ◌∷◌, drop, get_or, length, map, Option, Some, None, sym, ap, ◌∙◌, add-one}
 use Rattle.std.proofs.Math.Seq.{drop-cons}
 use Rattle.std.specs.Prelude.{option_map, unwrap_or}
-use Rattle.std.specs.Borrow.{Bor}
 use Rattle.std.specs.List.{filter, find, fold}
 use Rattle.std.specs.FinMap as fin
 use Rattle.std.proofs.lemmas.List.Elements.{All-map}
 use Rattle.cn_base.specs.Cidr.{Cidr}
+use Rattle.cn_base.specs.declared.ids.Asn.{Asn}
 use Rattle.cn_base.specs.declared.ids.DeviceId.{DeviceId}
 use Rattle.cn_base.specs.declared.ids.Origin.{Origin}
 use Rattle.cn_base.specs.declared.rank.Rank.{Rank}
@@ -17,6 +17,8 @@ use Rattle.cn_decide.specs.Decide.{better, with_rank}
 use Rattle.cn_decide.specs.declared.Ranked.{Ranked}
 use Rattle.cn_decide.proofs.Steps.{better_by_none, on_item-better}
 use Rattle.cn_lists.proofs.Finding.{None-from_is_some}
+use Rattle.cn_rib.specs.Interned.{attributes_under}
+use Rattle.cn_rib.specs.declared.interned.Interned.{Interned}
 use Rattle.cn_rib.proofs.Keyed.{get_empty}
 use Rattle.cn_net.specs.Candidates.{best_of, choice_from, rank_of, usable}
 use Rattle.cn_net.specs.Exchange.{accept}
@@ -25,14 +27,20 @@ use Rattle.cn_net.specs.Sessions.{places_into}
 use Rattle.cn_net.specs.declared.sessions.SessionEnds.{SessionEnds}
 use Rattle.cn_net.proofs.Deciding as deciding
 use Rattle.cn_net.proofs.Senders.{sender_at, senders_into}
+use Rattle.cn_core.specs.declared.best.Best.{Best}
 use Rattle.cn_core.specs.Learnt.{choice_with, has_session, learnt_choice}
 use Rattle.cn_core.specs.Machine.{came_at, route_with}
 use Rattle.cn_core.specs.Start.{ends, ends_of}
 use Rattle.cn_core.specs.State.{CoreState, empty_session, is_session, session}
+use Rattle.cn_core.specs.Stored.{choice_under}
 use Rattle.cn_core.specs.Whole.{IsWhole}
 use Rattle.cn_core.proofs.Access.{is_some-session, session-from_is_some}
 
 -- ---- one more route
+
+-- a route that came in from a, as it is held
+abbrev pub best_from : DeviceId → Interned → Best
+best_from a x = record { from = Some a; path = x.path; origin = x.origin }
 
 usable_accepted : (net : Network) (d a : DeviceId) (r : Route) → accept net d a r ≡ true
     → usable net d a (Some r) ≡ Some (choice_from a r)
@@ -85,24 +93,25 @@ module _ (s : CoreState) (d : DeviceId) (p : Cidr) (a : DeviceId) where
       ∙ usable_refused s.now.net d a (route_with p x) f)
 
   -- where it is accepted
-  pub better-accepted : (best more : Option (Ranked (DeviceId × Bor Attributes)))
-      (x : Bor Attributes) (rank : Rank)
-      → Some x.now ≡ fin.get (session s a d).adj_rib_in p
-      → accept s.now.net d a (route_with p x.now) ≡ true
-      → rank ≡ rank_of s.now.net (choice_with a x.now)
-      → more ≡ better best (Some (record { rank = rank; item = (a, x) }))
-      → learnt_choice more ≡ with_came (learnt_choice best)
-  better-accepted best more x rank e t r is =
+  pub better-accepted : (pool : List (List Asn)) (best more : Option (Ranked Best))
+      (x : Interned) (rank : Rank)
+      → Some (attributes_under pool x) ≡ fin.get (session s a d).adj_rib_in p
+      → accept s.now.net d a (route_with p (attributes_under pool x)) ≡ true
+      → rank ≡ rank_of s.now.net (choice_with a (attributes_under pool x))
+      → more ≡ better best (Some (record { rank = rank; item = best_from a x }))
+      → learnt_choice pool more ≡ with_came (learnt_choice pool best)
+  better-accepted pool best more x rank e t r is =
+      let here = attributes_under pool x in
       let next : Rank → Option (Ranked Choice) =
-      λ q. Some (record { rank = q; item = choice_with a x.now }) in
-      let used : usable s.now.net d a (came_at s d p a) ≡ Some (choice_with a x.now) =
-      ap (usable s.now.net d a) (sym (came_some x.now e))
-      ∙ usable_accepted s.now.net d a (route_with p x.now) t in
-      ap learnt_choice is
-      ∙ on_item-better (λ y. choice_with y.0 y.1.now) best
-      (Some (record { rank = rank; item = (a, x) }))
-      ∙ ap (λ q. better (learnt_choice best) (next q)) r
-      ∙ sym (ap (λ o. better (learnt_choice best)
+      λ q. Some (record { rank = q; item = choice_with a here }) in
+      let used : usable s.now.net d a (came_at s d p a) ≡ Some (choice_with a here) =
+      ap (usable s.now.net d a) (sym (came_some here e))
+      ∙ usable_accepted s.now.net d a (route_with p here) t in
+      ap (learnt_choice pool) is
+      ∙ on_item-better (choice_under pool) best
+      (Some (record { rank = rank; item = best_from a x }))
+      ∙ ap (λ q. better (learnt_choice pool best) (next q)) r
+      ∙ sym (ap (λ o. better (learnt_choice pool best)
       (option_map (with_rank (rank_of s.now.net)) o)) used)
 
 -- ---- one after another
@@ -150,11 +159,11 @@ own_decided s d p o e = deciding.own_decided s.now.net (came_at s d p) d p o e
 
 -- else the best of what came in and is accepted
 pub learnt_decided : (s : CoreState) (d : DeviceId) (p : Cidr) → None ≡ own_origin s.now.net d p
-    → (best : Option (Ranked (DeviceId × Bor Attributes)))
-    → learnt_choice best
+    → (pool : List (List Asn)) (best : Option (Ranked Best))
+    → learnt_choice pool best
     ≡ fold (λ x a. with_came s d p a x) None (filter (has_session s d) (device_ids s.now.net))
-    → option_map (λ (r : Ranked Choice). r.item) (learnt_choice best)
+    → option_map (λ (r : Ranked Choice). r.item) (learnt_choice pool best)
     ≡ best_of s.now.net (came_at s d p) d p
-learnt_decided s d p e best is =
+learnt_decided s d p e pool best is =
     deciding.learnt_among s.now.net (came_at s d p) d p (has_session s d) (came_nowhere s d p) e
-    (learnt_choice best) is
+    (learnt_choice pool best) is

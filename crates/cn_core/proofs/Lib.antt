@@ -46,3 +46,4 @@ mod Paths
 pub mod Under
 pub mod StoredKept
 pub mod Receiving
+pub mod StoredReads

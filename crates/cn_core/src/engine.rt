@@ -120,7 +120,6 @@ impl Engine {
         }
     }
 
-    #[tactic(auto, unfolding(crate::specs::State::rib), using(crate::proofs::Held::rib_read))]
     fn is_dirty(&self, device: DeviceId, prefix: &Prefix) -> bool
         ensures { result ≡ set.contains (rib (stands_for self.now) device).dirty prefix.now }
     {

@@ -1,26 +1,26 @@
-use Rattle.std.proofs.Common.{◌≡◌, Some, get_or, length, map, sym, ap, ◌∙◌}
+use Rattle.std.proofs.Common.{◌≡◌, Some, get_or, sym, ap, ◌∙◌, length}
 use Rattle.std.specs.Prelude.{◌&&◌, nat_lt, is_some}
 use Rattle.std.specs.List.{find}
 use Rattle.cn_core.specs.Owed.{owes}
-use Rattle.cn_core.specs.State.{CoreState, SessionState, empty_session, is_session, session}
-use Rattle.cn_core.specs.Stored.{session_under, stands_for}
+use Rattle.cn_core.specs.State.{empty_session, is_session, session}
+use Rattle.cn_core.specs.Stored.{Stored, session_under, stands_for}
 use Rattle.cn_core.proofs.Changed.{can_send_found}
 use Rattle.cn_core.proofs.Places.{found_at, not_found}
-use Rattle.cn_core.proofs.StoredKept.{read-now}
+use Rattle.cn_core.proofs.StoredReads.{session_read}
 use Rattle.cn_core.proofs.engine.Engine.can_send.Goals as goal
 
 pub returns-then-owes : goal.returns-then-owes
 returns-then-owes c =
-    let in' = c.self.inside in
-    let s = stands_for c.args.self.now in
+    let n = c.args.self.now in
+    let s = stands_for n in
     let a = c.args.from in
     let b = c.args.to in
     let at = c.in-Some.at in
-    let x = session_under c.args.self.now.pool c.index-session.result.now in
-    let read : x ≡ get_or s.sessions at x =
-    read-now in'.certified in'.pool in'.sessions.items in'.ribs.items c.args.self.now
-    c.self.view_is at c.index-session.result.now c.in-Some.ensures.inside
-    c.index-session.ensures in
+    let here = c.index-session.result.now in
+    let x = session_under n.pool here in
+    let stored : here ≡ get_or n.sessions at here =
+    c.index-session.ensures ∙ ap (λ (t : Stored). get_or t.sessions at here) c.self.view_is in
+    let read = session_read n at here c.in-Some.ensures.inside stored in
     let found : find (is_session a b) s.sessions ≡ Some x =
     found_at a b s.sessions at x c.in-Some.ensures ∙ ap Some (sym read) in
     ap (λ l. nat_lt l 64) c.len.ensures.length

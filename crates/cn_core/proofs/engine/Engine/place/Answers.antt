@@ -2,8 +2,7 @@ use Rattle.std.proofs.Common.{◌≡◌, ◌∙◌, ℕ, ap, subst}
 use Rattle.std.specs.Prelude.{◌≢◌, MatchOption, Some, slice_get}
 use Rattle.cn_net.specs.Sessions.{Ascend}
 use Rattle.cn_core.specs.Start.{ends_of}
-use Rattle.cn_core.specs.State.{CoreState}
-use Rattle.cn_core.specs.Stored.{stands_for}
+use Rattle.cn_core.specs.Stored.{Stored, stands_for}
 use Rattle.cn_core.proofs.Places.{place_found}
 use Rattle.cn_core.proofs.engine.Engine.place.Goals as goal
 
@@ -12,7 +11,7 @@ returns c =
     let s = stands_for c.args.self.now in
     let here =
     c.self.invariant.right.indexed
-    ∙ ap (λ (t : CoreState). ends_of t.sessions) (ap stands_for c.self.view_is) in
+    ∙ ap (λ (t : Stored). ends_of (stands_for t).sessions) c.self.view_is in
     place_found c.args.from c.args.to s.sessions c.place.result
     (subst Ascend here c.valid.ensures)
     (subst (λ es. MatchOption c.place.result

@@ -1,18 +1,19 @@
-use Rattle.std.proofs.Common.{Some, ap, sym, ◌∙◌}
-use Rattle.cn_core.specs.Stored.{session_under, stands_for}
+use Rattle.std.proofs.Common.{◌≡◌, ◌∙◌, Some, get_or, sym, ap}
+use Rattle.cn_core.specs.Stored.{Stored, session_under, stands_for}
 use Rattle.cn_core.proofs.Places.{found_at, not_found}
-use Rattle.cn_core.proofs.StoredKept.{read-now}
+use Rattle.cn_core.proofs.StoredReads.{session_read}
 use Rattle.cn_core.proofs.engine.Engine.session.Goals as goal
 
 pub returns-in-Some : goal.returns-in-Some
 returns-in-Some c =
-    let s = c.args.self.now in
-    let in' = c.self.inside in
+    let n = c.args.self.now in
+    let at = c.in-Some.at in
     let x = c.index.result.now in
-    ap Some (read-now in'.certified in'.pool in'.sessions.items in'.ribs.items s c.self.view_is
-    c.in-Some.at x c.in-Some.ensures.inside c.index.ensures)
-    ∙ sym (found_at c.args.from c.args.to (stands_for s).sessions c.in-Some.at
-    (session_under s.pool x) c.in-Some.ensures)
+    let read : x ≡ get_or n.sessions at x =
+    c.index.ensures ∙ ap (λ (t : Stored). get_or t.sessions at x) c.self.view_is in
+    ap Some (session_read n at x c.in-Some.ensures.inside read)
+    ∙ sym (found_at c.args.from c.args.to (stands_for n).sessions at (session_under n.pool x)
+    c.in-Some.ensures)
 
 pub returns-in-None : goal.returns-in-None
 returns-in-None c =

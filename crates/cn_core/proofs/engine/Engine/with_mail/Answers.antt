@@ -1,28 +1,37 @@
-use Rattle.std.proofs.Common.{◌∙◌, ap, map, sym}
+use Rattle.std.proofs.Common.{◌≡◌, ◌∙◌, Some, ap, get_or, subst, sym}
 use Rattle.std.specs.Prelude.{option_copied, option_map}
-use Rattle.std.specs.List.{find}
-use Rattle.cn_core.specs.Order.{has_mail}
-use Rattle.cn_core.specs.State.{CoreState}
-use Rattle.cn_core.specs.Stored.{session_under, stands_for}
+use Rattle.cn_core.specs.OwedLists.{AreCounted}
+use Rattle.cn_core.specs.Stored.{Stored, session_under, stands_for}
 use Rattle.cn_core.proofs.Counted.{mail_of}
-use Rattle.cn_core.proofs.Firsts.{slot_found, slot_none}
-use Rattle.cn_core.proofs.StoredKept.{found-now}
+use Rattle.cn_core.proofs.Firsts.{slot_found, slot_none, slot_within}
+use Rattle.cn_core.proofs.StoredReads.{session_read}
 use Rattle.cn_core.proofs.engine.Engine.with_mail.Goals as goal
 
 pub returns-in_err-at : goal.returns-in_err-at
 returns-in_err-at c =
     let e = c.self.inside in
-    ap (λ o. option_map (session_under c.args.self.now.pool) (option_copied o))
-    c.from_residual.ensures
-    ∙ sym (slot_none mail_of (map (session_under e.pool) e.sessions.items) e.in_mail
-    c.self.invariant.right.counted.mail (sym c.in_err-at.ensures))
-    ∙ ap (λ (s : CoreState). find has_mail s.sessions) (ap stands_for c.self.view_is)
+    let n = c.args.self.now in
+    let counted =
+    subst (λ (t : Stored). AreCounted (stands_for t) e.owed.items e.in_mail e.in_lists e.in_ribs)
+    c.self.view_is c.self.invariant.right.counted in
+    ap (λ o. option_map (session_under n.pool) (option_copied o)) c.from_residual.ensures
+    ∙ sym (slot_none mail_of (stands_for n).sessions e.in_mail counted.mail
+    (sym c.in_err-at.ensures))
 
 pub returns : goal.returns
 returns c =
     let e = c.self.inside in
-    found-now e.certified e.pool e.sessions.items e.ribs.items c.args.self.now c.self.view_is
-    (λ s. has_mail) c.in_ok-at.at c.index.result.now ? c.index.ensures
-    (slot_found mail_of (map (session_under e.pool) e.sessions.items) e.in_mail
-    c.self.invariant.right.counted.mail c.in_ok-at.at
-    (session_under e.pool c.index.result.now) (sym c.in_ok-at.ensures))
+    let n = c.args.self.now in
+    let at = c.in_ok-at.at in
+    let x = c.index.result.now in
+    let counted =
+    subst (λ (t : Stored). AreCounted (stands_for t) e.owed.items e.in_mail e.in_lists e.in_ribs)
+    c.self.view_is c.self.invariant.right.counted in
+    let read : x ≡ get_or n.sessions at x =
+    c.index.ensures ∙ ap (λ (t : Stored). get_or t.sessions at x) c.self.view_is in
+    let first = sym c.in_ok-at.ensures in
+    let items = (stands_for n).sessions in
+    let here = session_under n.pool x in
+    ap Some (session_read n at x
+    (slot_within mail_of items e.in_mail counted.mail at here first) read)
+    ∙ sym (slot_found mail_of items e.in_mail counted.mail at here first)
