@@ -16,7 +16,6 @@ pub mod Stands
 pub mod First
 mod Firsts
 pub mod Quiet
-pub mod Held
 pub mod Places
 pub mod Changed
 pub mod Counted

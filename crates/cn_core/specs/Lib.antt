@@ -13,7 +13,6 @@ pub mod Pulled
 pub mod Whole
 pub mod Learnt
 pub mod Rows
-pub mod Codes
 pub mod OwedLists
 pub mod Play
 pub mod PlayLaws
