@@ -22,7 +22,8 @@ prefixes_of d = map (λ o. o.prefix) d.body.own
 abbrev pub AreOfFirst : List Device → ℕ → List Cidr → Type 0
 AreOfFirst devices i keys =
     (q : Cidr)
-    → list_any (same_prefix q) keys ≡ list_any (same_prefix q) (flat_map prefixes_of (take i devices))
+    → list_any (same_prefix q) keys
+    ≡ list_any (same_prefix q) (flat_map prefixes_of (take i devices))
 
 -- and of one more, once its prefixes are added
 of_more : (ds : List Device) (i : ℕ) (x : Device) (keys new : List Cidr) → i < length ds
@@ -83,6 +84,6 @@ module _ (net : Network) (d : DeviceId) (body : Body) (is : IsDevice net d) wher
       let listed : own ≡ (get_or (with_body net d body).devices i x).body.own =
       has ∙ sym (own_in i x within here) in
       of_more (with_body net d body).devices i x keys new (omega arith) so
-      (λ q. put q
-      ∙ ap (λ os. list_any (same_prefix q) keys || list_any (same_prefix q) (map (λ o. o.prefix) os))
-      listed)
+      (λ q.
+      let had = list_any (same_prefix q) keys in
+      put q ∙ ap (λ os. had || list_any (same_prefix q) (map (λ o. o.prefix) os)) listed)

@@ -9,10 +9,11 @@ use Rattle.cn_base.specs.Cidr.{same_prefix}
 use Rattle.cn_base.specs.declared.ids.Asn.{Asn}
 use Rattle.cn_base.specs.declared.ids.DeviceId.{DeviceId}
 use Rattle.cn_lists.proofs.Finding.{All-from_find_none}
-use Rattle.cn_change.specs.Journal.{above_fault, cut_fault, ends_fault, first_twice, is_device, is_up, limit_fault, link_fault, most_prefixes, number_fault, outside_fault, own_fault, pair_fault, peers_fault, place_fault, policy_fault, reach_fault, reload_fault, reset_fault, restore_fault, same_system_fault}
+use Rattle.cn_change.specs.Journal.{above_fault, cut_fault, ends_fault, first_twice, is_device, limit_fault, link_fault, most_prefixes, number_fault, outside_fault, own_fault, pair_fault, unknown_peer_fault, place_fault, policy_fault, reach_fault, reload_fault, reset_fault, restore_fault, same_system_fault}
 use Rattle.cn_change.specs.declared.change.ChangeFault.TheVariants.{AlreadyDown, AlreadyUp, DuplicateOwn, DuplicatePeer, IsDown, LinkOutside, NoDevice, NoLink, NotEmulated, SameAs, TooMany}
 use Rattle.cn_net.specs.Alike.{IsLinkInside}
 use Rattle.cn_net.specs.Changed.{with_body}
+use Rattle.cn_net.specs.Exchange.{is_up}
 use Rattle.cn_net.specs.Faults.{◌or_else◌, fault_if}
 use Rattle.cn_net.specs.Islands.{outside_of}
 use Rattle.cn_net.specs.Limits.{most_rows, prefix_count, row_count}
@@ -38,7 +39,7 @@ is_number net d e =
     ltb-true d.0 (length net.devices)
     (not-false (is_device net d) (not_found (not (is_device net d)) (NoDevice d) e))
 
-are_numbers : (net : Network) (peers : List Peer) → peers_fault net peers ≡ None
+are_numbers : (net : Network) (peers : List Peer) → unknown_peer_fault net peers ≡ None
     → All (λ p. IsDevice net p.device) peers
 are_numbers net peers e =
     let found = find (λ (p : Peer). not (is_device net p.device)) peers in
@@ -136,7 +137,7 @@ pub place_fits : (net : Network) (emulated : List DeviceId) (d : DeviceId) (body
 unfolding place_fault
 place_fits net emulated d body e =
     let number = number_fault net d in
-    let peers = peers_fault net body.peers in
+    let peers = unknown_peer_fault net body.peers in
     let outside = outside_fault emulated d in
     let systems = same_system_fault net d body.asn in
     let first = neither number (peers or_else outside or_else systems) e in

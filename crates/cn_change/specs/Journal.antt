@@ -1,7 +1,7 @@
 -- Changes of a network: what the network is after one, and the fault of one that isn't made, the
 -- first in the order in which faults are looked for. The journal of an emulation is the list of the
 -- changes that were made. `emulated` is the list of the emulated devices.
-use Rattle.std.specs.Prelude.{◌≡◌, ℕ, ◌==◌, ◌&&◌, Bool, true, false, not, nat_lt, List, length, map, find, Option, Some, None, option_map, unwrap_or, Result, MatchResult}
+use Rattle.std.specs.Prelude.{◌≡◌, ℕ, ◌==◌, ◌&&◌, Bool, true, false, not, nat_lt, List, length, map, find, Option, Some, None, option_map, Result, MatchResult}
 use Rattle.std.specs.List.{list_any}
 use Rattle.cn_base.specs.Cidr.{same_prefix}
 use Rattle.cn_base.specs.declared.ids.Asn.{Asn}
@@ -13,10 +13,11 @@ use Rattle.cn_change.specs.declared.change.ChangeAnswer.TheVariants.{Fault, Memo
 use Rattle.cn_change.specs.declared.change.ChangeFault.{ChangeFault}
 use Rattle.cn_change.specs.declared.change.ChangeFault.TheVariants.{AlreadyDown, AlreadyUp, DuplicateOwn, DuplicatePeer, IsDown, LinkOutside, NoDevice, NoLink, NotEmulated, SameAs, TooMany}
 use Rattle.cn_net.specs.Changed.{with_body, with_link}
+use Rattle.cn_net.specs.Exchange.{is_up}
 use Rattle.cn_net.specs.Faults.{◌or_else◌, fault_if, first_in}
 use Rattle.cn_net.specs.Islands.{outside_of}
 use Rattle.cn_net.specs.Limits.{most_rows, prefix_count, row_count}
-use Rattle.cn_net.specs.Network.{Network, IsDevice, IsLinked, asn_of, is_linked, link_between, peers_of, same_device}
+use Rattle.cn_net.specs.Network.{Network, IsDevice, IsLinked, asn_of, is_linked, peers_of, same_device}
 use Rattle.cn_net.specs.Valid.{IsValid}
 use Rattle.cn_net.specs.declared.device.Body.{Body}
 use Rattle.cn_net.specs.declared.device.Own.{Own}
@@ -57,8 +58,8 @@ abbrev pub ends_fault : Network → DeviceId → DeviceId → Option ChangeFault
 ends_fault net a b = number_fault net a or_else number_fault net b
 
 -- the first of the peers whose number isn't that of a device
-abbrev pub peers_fault : Network → List Peer → Option ChangeFault
-peers_fault net peers =
+abbrev pub unknown_peer_fault : Network → List Peer → Option ChangeFault
+unknown_peer_fault net peers =
     option_map (λ p. NoDevice p.device) (find (λ p. not (is_device net p.device)) peers)
 
 -- ---- a change of a link
@@ -77,10 +78,6 @@ reach_fault emulated a b =
 unfoldable pub pair_fault : Network → List DeviceId → DeviceId → DeviceId → Option ChangeFault
 pair_fault net emulated a b =
     ends_fault net a b or_else link_fault net a b or_else reach_fault emulated a b
-
--- the link of the two is up
-abbrev pub is_up : Network → DeviceId → DeviceId → Bool
-is_up net a b = unwrap_or (link_between net a b) false
 
 -- a link that is down isn't cut
 unfoldable pub cut_fault : Network → List DeviceId → DeviceId → DeviceId → Option ChangeFault
@@ -139,7 +136,7 @@ limit_fault net emulated =
 unfoldable pub place_fault : Network → List DeviceId → DeviceId → Body → Option ChangeFault
 place_fault net emulated d body =
     number_fault net d
-    or_else peers_fault net body.peers
+    or_else unknown_peer_fault net body.peers
     or_else outside_fault emulated d
     or_else same_system_fault net d body.asn
 

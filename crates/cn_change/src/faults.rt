@@ -2,8 +2,9 @@
 
 ghost use Rattle.std.specs.Prelude.{◌≡◌, ◌==◌, IfOk, find, map, option_map};
 ghost use Rattle.cn_base.specs.Cidr.{same_prefix};
-ghost use Rattle.cn_change.specs.Journal.{ends_fault, fault_of, first_twice, is_up, limit_fault, number_fault, pair_fault, peers_fault, place_fault, reload_fault, same_system_fault, cut_fault, restore_fault, reset_fault};
+ghost use Rattle.cn_change.specs.Journal.{cut_fault, ends_fault, fault_of, first_twice, limit_fault, number_fault, pair_fault, place_fault, reload_fault, reset_fault, restore_fault, same_system_fault, unknown_peer_fault};
 ghost use Rattle.cn_net.specs.Changed.{with_body};
+ghost use Rattle.cn_net.specs.Exchange.{is_up};
 ghost use Rattle.cn_net.specs.Network.{IsDevice, asn_of, same_device};
 
 use crate::change::{Change, ChangeFault};
@@ -37,8 +38,8 @@ fn ends_fault(net: &Net, a: DeviceId, b: DeviceId) -> Option<ChangeFault>
 }
 
 /// The first peer that is no device.
-fn peers_fault(net: &Net, peers: &[Peer]) -> Option<ChangeFault>
-    ensures { result ≡ peers_fault net.now peers.now }
+fn unknown_peer_fault(net: &Net, peers: &[Peer]) -> Option<ChangeFault>
+    ensures { result ≡ unknown_peer_fault net.now peers.now }
 {
     let count = net.count();
     let found = peers.iter().find(|p| p.device.0 >= count);
@@ -194,7 +195,7 @@ fn place_fault(net: &Net, emulated: &DeviceSet, d: DeviceId, body: &Body) -> Opt
     if let Some(fault) = number_fault(net, d) {
         return Some(fault);
     }
-    if let Some(fault) = peers_fault(net, body.peers.items()) {
+    if let Some(fault) = unknown_peer_fault(net, body.peers.items()) {
         return Some(fault);
     }
     if !emulated.holds(d) {

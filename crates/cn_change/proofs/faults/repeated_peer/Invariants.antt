@@ -4,4 +4,5 @@ use Rattle.cn_change.proofs.Twice.{IsSearched}
 use Rattle.cn_change.proofs.faults.repeated_peer.Given as goal
 
 abbrev pub invariant-loop-one : goal.invariant-loop-one
-invariant-loop-one l = IsSearched same_device (map (λ p. p.device) l.peers) l.one-index l.before.keys
+invariant-loop-one l =
+    IsSearched same_device (map (λ p. p.device) l.peers) l.one-index l.before.keys
