@@ -161,6 +161,13 @@ fault_of net emulated (Reset a b) = reset_fault net emulated a b
 abbrev pub IsAccepted : Network → List DeviceId → Change → Type 0
 IsAccepted net emulated change = fault_of net emulated change ≡ None
 
+-- the change has another body for a device
+abbrev pub IsReload : Change → Type 0
+IsReload (Reload device body) = Unit {0}
+IsReload (Cut a b) = ⊥
+IsReload (Restore a b) = ⊥
+IsReload (Reset a b) = ⊥
+
 -- a fault in an answer is the first; want of memory tells nothing of it
 abbrev pub IsFirstChangeFault : Option ChangeFault → ChangeAnswer → Type 0
 IsFirstChangeFault first (Fault f) = first ≡ Some f

@@ -1,8 +1,8 @@
 //! The faults of a change, a function each, in the order in which they are looked for.
 
-ghost use Rattle.std.specs.Prelude.{◌≡◌, ◌==◌, IfOk, find, map, option_map};
+ghost use Rattle.std.specs.Prelude.{◌≡◌, ◌==◌, IfOk, OnErr, find, map, option_map};
 ghost use Rattle.cn_base.specs.Cidr.{same_prefix};
-ghost use Rattle.cn_change.specs.Journal.{cut_fault, ends_fault, fault_of, first_twice, limit_fault, number_fault, pair_fault, place_fault, reload_fault, reset_fault, restore_fault, same_system_fault, unknown_peer_fault};
+ghost use Rattle.cn_change.specs.Journal.{IsReload, cut_fault, ends_fault, fault_of, first_twice, limit_fault, number_fault, pair_fault, place_fault, reload_fault, reset_fault, restore_fault, same_system_fault, unknown_peer_fault};
 ghost use Rattle.cn_net.specs.Changed.{with_body};
 ghost use Rattle.cn_net.specs.Exchange.{is_up};
 ghost use Rattle.cn_net.specs.Network.{IsDevice, asn_of, same_device};
@@ -235,7 +235,8 @@ pub fn fault(
     emulated: &DeviceSet,
     change: &Change,
 ) -> Result<Option<ChangeFault>, AllocError>
-    ensures { IfOk result (λ f. f ≡ fault_of net.now emulated.now change.now) }
+    ensures first { IfOk result (λ f. f ≡ fault_of net.now emulated.now change.now) }
+    ensures memory { OnErr result (IsReload change.now) }
 {
     match change {
         Change::Reload { device, body } => reload_fault(alloc, net, emulated, *device, body),

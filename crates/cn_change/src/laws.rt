@@ -2,7 +2,7 @@
 
 ghost use Rattle.std.specs.Prelude.{◌≡◌, List};
 ghost use Rattle.cn_base.specs.declared.ids.DeviceId.{DeviceId};
-ghost use Rattle.cn_change.specs.Journal.{IsAccepted, changed};
+ghost use Rattle.cn_change.specs.Journal.{IsAccepted, IsPossible, changed};
 ghost use Rattle.cn_change.specs.declared.change.Change.{Change};
 ghost use Rattle.cn_net.specs.Alike.{DifferInside, HaveSameEnds};
 ghost use Rattle.cn_net.specs.Islands.{outside_of};
@@ -15,6 +15,13 @@ ghost use Rattle.cn_net.specs.Valid.{IsValid};
 pub fn accepted_is_valid()
     ensures { (net : Network) (emulated : List DeviceId) (change : Change)
         → IsValid net → IsAccepted net emulated change → IsValid (changed net change) }
+{}
+
+/// Such a change can be made: the device is one, or the two devices are linked, which is what
+/// `Net::with_body` and `Net::with_link` ask.
+pub fn accepted_can_be_made()
+    ensures { (net : Network) (emulated : List DeviceId) (change : Change)
+        → IsValid net → IsAccepted net emulated change → IsPossible net change }
 {}
 
 /// An accepted change is inside: it changes an emulated device, or a link with an emulated end, and
