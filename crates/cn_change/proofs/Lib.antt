@@ -1,0 +1,4 @@
+pub mod Accepted
+pub mod Counted
+pub mod Fits
+pub mod Twice
