@@ -1,5 +1,5 @@
 -- What a receive takes out of a mailbox.
-use Rattle.std.proofs.Common.{◌≡◌, ℕ, ◌<◌, ◌↔◌, List, [], ◌∷◌, ◌++◌, length, Option, Some, None, refl, sym, ap, ◌∙◌, arith, true≢false}
+use Rattle.std.proofs.Common.{◌≡◌, ℕ, ◌<◌, ◌↔◌, List, [], ◌∷◌, ◌++◌, length, Option, Some, None, sym, ap, ◌∙◌, arith, true≢false}
 use Rattle.std.specs.Prelude.{IsSome, Ok, option_to_list, slice_get}
 use Rattle.std.proofs.lemmas.Option.{none-some}
 use Rattle.cn_wire.specs.Reading.{update_of}

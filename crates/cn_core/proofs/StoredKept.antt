@@ -1,7 +1,6 @@
 -- What the engine keeps is right after each event, of the state as it lies in memory.
-use Rattle.std.proofs.Common.{◌≡◌, ℕ, ◌<◌, List, [], length, get_or, map, set, refl, sym, ap, ◌∙◌, subst, arith}
-use Rattle.std.specs.Prelude.{All, Bool, Err, Ok, OnErr, Option, Result, Some, option_map}
-use Rattle.std.specs.List.{find}
+use Rattle.std.proofs.Common.{◌≡◌, ℕ, ◌<◌, List, [], length, get_or, map, set, sym, ap, ◌∙◌, subst, arith}
+use Rattle.std.specs.Prelude.{Err, Ok, OnErr, Option, Result, option_map}
 use Rattle.std.specs.FinMap as fin
 use Rattle.std.proofs.lemmas.List.{get_or-map, length-map, map-set, set-get_or}
 use Rattle.std.proofs.lemmas.List.Elements.{All-set}
@@ -319,32 +318,32 @@ module _ (nn : Opening) (pool : List (List Asn)) (xs : List Session) (ys : List 
     (kept : IsKeptRight (stored nn pool xs ys) index os mail owed dirty) where
   pub within_mail : (i : ℕ) → i < length xs → i < length mail
   within_mail i lt = omega (
-      arith,
-      lt,
-      ap length kept.right.counted.mail,
-      length-map (map (session_under pool) xs) mail_of,
-      length-map xs (session_under pool),
-    )
+    arith,
+    lt,
+    ap length kept.right.counted.mail,
+    length-map (map (session_under pool) xs) mail_of,
+    length-map xs (session_under pool),
+  )
 
   pub within_lists : (i : ℕ) → i < length xs → i < length os
   within_lists i lt = omega (arith, lt, kept.right.listed.many, length-map xs (session_under pool))
 
   pub within_owed : (i : ℕ) → i < length xs → i < length owed
   within_owed i lt = omega (
-      arith,
-      within_lists i lt,
-      ap length kept.right.counted.owed,
-      length-map os count_of,
-    )
+    arith,
+    within_lists i lt,
+    ap length kept.right.counted.owed,
+    length-map os count_of,
+  )
 
   pub within_dirty : (b : ℕ) → b < length ys → b < length dirty
   within_dirty b lt = omega (
-      arith,
-      lt,
-      ap length kept.right.counted.dirty,
-      length-map (map (rib_under pool) ys) dirty_of,
-      length-map ys (rib_under pool),
-    )
+    arith,
+    lt,
+    ap length kept.right.counted.dirty,
+    length-map (map (rib_under pool) ys) dirty_of,
+    length-map ys (rib_under pool),
+  )
 
 -- what holds whatever a call answers
 pub on_err : {T E P : Type 0} (r : Result T E) → P → OnErr r P

@@ -1,17 +1,14 @@
 -- What ids stand for under a pool, and under a longer one.
-use Rattle.std.proofs.Common.{◌≡◌, ℕ, ◌<◌, ◌≤◌, Bool, true, false, cond, List, [], ◌∷◌, length, get_or, map, set, Option, Some, None, refl, sym, ap, ◌∙◌, subst, arith}
+use Rattle.std.proofs.Common.{◌≡◌, ◌<◌, Bool, true, false, cond, List, [], ◌∷◌, length, get_or, map, Option, Some, None, refl, sym, ap, ◌∙◌, subst, arith}
 use Rattle.std.specs.Prelude.{All, Err, IfSome, Ok, OnErr, OnOk, Result, option_map}
 use Rattle.std.specs.FinMap as fin
-use Rattle.std.proofs.lemmas.List.{length-map, length-set, map-set}
-use Rattle.std.proofs.lemmas.List.Elements.{All-cons, All-head, All-nil, All-tail}
+use Rattle.std.proofs.lemmas.List.Elements.{All-head, All-tail}
 use Rattle.std.proofs.lemmas.Option.{none-some}
 use Rattle.cn_base.specs.Cidr.{Cidr, same_prefix}
 use Rattle.cn_base.specs.declared.ids.Asn.{Asn}
 use Rattle.cn_pool.specs.Pool.{Extends}
 use Rattle.cn_pool.proofs.Pools.{path_kept}
-use Rattle.cn_rib.specs.Interned.{IsUnder, attributes_under, routes_under}
-use Rattle.cn_rib.specs.PrefixMaps.{put_at}
-use Rattle.cn_rib.specs.declared.interned.Interned.{Interned}
+use Rattle.cn_rib.specs.Interned.{attributes_under}
 use Rattle.cn_rib.proofs.IdRoutes.{same_routes, under_longer}
 use Rattle.cn_rib.proofs.Keyed.{get_empty}
 use Rattle.cn_rib.proofs.Mapped.{get-mapped, put_at-mapped, same-mapped}
@@ -20,7 +17,6 @@ use Rattle.cn_core.specs.declared.best.Best.{Best}
 use Rattle.cn_core.specs.declared.session.Rib.{Rib}
 use Rattle.cn_core.specs.declared.session.Session.{Session}
 use Rattle.cn_core.specs.Machine.{decided}
-use Rattle.cn_core.specs.State.{RibState, SessionState}
 use Rattle.cn_core.specs.Stored.{BestRoutes, IsHeldUnder, IsSessionUnder, best_decided, choice_under, held_under, rib_under, session_under}
 
 -- ---- what is there for a prefix

@@ -75,15 +75,7 @@ fn due_with(
         return Due::Announcement;
     };
     let sent_path = pool.path(sent.path);
-    if net.is_offer(
-        from,
-        to,
-        prefix,
-        path,
-        best.origin,
-        sent_path,
-        sent.origin,
-    ) {
+    if net.is_offer(from, to, prefix, path, best.origin, sent_path, sent.origin) {
         return Due::Nothing;
     }
     Due::Announcement
@@ -240,15 +232,7 @@ fn dues(
     for at in start..end {
         let session = &sessions[at];
         let sent = session.adj_rib_out.at(prefix);
-        dues.push(due_with(
-            net,
-            pool,
-            session.from,
-            session.to,
-            prefix,
-            sent,
-            held,
-        ))?;
+        dues.push(due_with(net, pool, session.from, session.to, prefix, sent, held))?;
     }
     Ok(dues)
 }

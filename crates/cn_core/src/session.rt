@@ -103,7 +103,13 @@ pub fn receive(
         Err(WireAnswer::Fault(_)) => return Ok(()),
         Err(WireAnswer::Memory) => return Err(AllocError),
     };
-    take_in(alloc, pool, &mut session.adj_rib_in, &mut rib.dirty, &update)?;
+    take_in(
+        alloc,
+        pool,
+        &mut session.adj_rib_in,
+        &mut rib.dirty,
+        &update,
+    )?;
     session.mail.pop();
     Ok(())
 }

@@ -1,5 +1,4 @@
-use Rattle.std.proofs.Common.{Ok, ap, sym, ◌∙◌, refl}
-use Rattle.std.specs.Prelude.{slice_get}
+use Rattle.std.proofs.Common.{ap, sym, ◌∙◌, refl}
 use Rattle.cn_rib.proofs.IdRoutes.{same_routes}
 use Rattle.cn_wire.specs.Reading.{update_of}
 use Rattle.cn_core.specs.Stored.{session_under}

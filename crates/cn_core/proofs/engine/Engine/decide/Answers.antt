@@ -1,4 +1,4 @@
-use Rattle.std.proofs.Common.{◌≡◌, ◌<◌, List, ap, arith, get_or, length, map, set, subst, sym, ◌∙◌}
+use Rattle.std.proofs.Common.{◌<◌, List, ap, arith, get_or, length, map, set, subst, sym, ◌∙◌}
 use Rattle.std.specs.Prelude.{IfSome, option_map}
 use Rattle.std.proofs.lemmas.List.{length-map}
 use Rattle.std.proofs.lemmas.Result.{on_ok_weaker}

@@ -5,13 +5,13 @@ use Rattle.cn_pool.proofs.Pools.{extends_itself}
 use Rattle.cn_core.specs.declared.owed.Owed.{Owed}
 use Rattle.cn_core.specs.declared.session.Session.{Session}
 use Rattle.cn_core.specs.Owed.{rows}
-use Rattle.cn_core.specs.OwedLists.{IsListed, count_of, owed_over}
+use Rattle.cn_core.specs.OwedLists.{IsListed, owed_over}
 use Rattle.cn_core.specs.State.{SessionState}
 use Rattle.cn_core.specs.Stored.{IsKeptRight, held_under, rib_under, session_under, stands_for}
 use Rattle.cn_core.specs.Whole.{IsWhole}
 use Rattle.cn_core.proofs.Changed.{found_to_send, listed_read, message_laid, message_read, place_within, read_session}
 use Rattle.cn_core.proofs.Kept.{room_to_send}
-use Rattle.cn_core.proofs.StoredKept.{inside_ribs, inside_sessions, kept-more, kept-sent, on_err, read-under, set_same, stands-more, stands-sent, stored, within_lists, within_mail, within_owed}
+use Rattle.cn_core.proofs.StoredKept.{inside_ribs, inside_sessions, kept-more, kept-sent, on_err, read-under, set_same, stands-more, stands-sent, stored}
 use Rattle.cn_core.proofs.engine.Engine.send.Goals as goal
 
 pub returns-in_default-clause-ok : goal.returns-in_default-clause-ok
