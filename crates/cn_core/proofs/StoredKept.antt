@@ -284,7 +284,8 @@ module _ (nn : Opening) (pool : List (List Asn)) (xs : List Session) (ys : List 
       → IsKeptRight (stored nn pool xs ys) index os mail owed dirty
       → (d : DeviceId) (start end : ℕ) → ArePlacesOf d (map (session_under pool) xs) start end
       → (ny : Rib) (new : List Owed) (owed' dirty' : List ℕ) → d.0 < length ys
-      → AreListedFrom nn.net (held_under pool ny.loc_rib) (map (session_under pool) xs) start end new
+      → AreListedFrom nn.net (held_under pool ny.loc_rib) (map (session_under pool) xs) start end
+      new
       → AreElsewhere start end os new → owed' ≡ map count_of new
       → dirty' ≡ set dirty d.0 (fin.len ny.dirty) → IsHeldUnder pool ny.loc_rib
       → IsKeptRight (stored nn pool xs (set ys d.0 ny)) index new mail owed' dirty'

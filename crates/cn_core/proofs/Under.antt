@@ -82,7 +82,9 @@ module _ (old new : List (List Asn)) (more : Extends old new) where
       → map (session_under new) xs ≡ map (session_under old) xs
   sessions_longer [] all = refl
   sessions_longer (x ∷ xs) all =
-      (λ i. session_longer x (All-head (IsSessionUnder old) x xs all) i ∷ sessions_longer xs (All-tail (IsSessionUnder old) x xs all) i)
+      let first = session_longer x (All-head (IsSessionUnder old) x xs all) in
+      let others = sessions_longer xs (All-tail (IsSessionUnder old) x xs all) in
+      (λ i. first i ∷ others i)
 
   pub are_sessions_longer : (xs : List Session) → All (IsSessionUnder old) xs
       → All (IsSessionUnder new) xs
@@ -92,7 +94,9 @@ module _ (old new : List (List Asn)) (more : Extends old new) where
       → map (rib_under new) ys ≡ map (rib_under old) ys
   ribs_longer [] all = refl
   ribs_longer (y ∷ ys) all =
-      (λ i. rib_longer y (All-head (λ z. IsHeldUnder old z.loc_rib) y ys all) i ∷ ribs_longer ys (All-tail (λ z. IsHeldUnder old z.loc_rib) y ys all) i)
+      let first = rib_longer y (All-head (λ z. IsHeldUnder old z.loc_rib) y ys all) in
+      let others = ribs_longer ys (All-tail (λ z. IsHeldUnder old z.loc_rib) y ys all) in
+      (λ i. first i ∷ others i)
 
   pub are_ribs_longer : (ys : List Rib) → All (λ y. IsHeldUnder old y.loc_rib) ys
       → All (λ y. IsHeldUnder new y.loc_rib) ys

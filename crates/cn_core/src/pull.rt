@@ -129,7 +129,8 @@ impl Engine {
     /// The tables of these devices.
     pub fn tables(&self, alloc: Global, devices: &DeviceSet) -> Result<Tables, AllocError>
         requires { All (IsDevice self.now.now.net) devices.now }
-        ensures { IfOk result (λ tables. AreTables devices.now (held_in (stands_for self.now)) tables) }
+        ensures { IfOk result
+            (λ tables. AreTables devices.now (held_in (stands_for self.now)) tables) }
     {
         let mut tables = Vec::with_capacity(alloc, devices.len())?;
         for device in devices.items() {

@@ -109,7 +109,8 @@ module _ (pool : List (List Asn)) (m : IdRoutes) (u : Update) (said : Option Int
 -- ---- the same, of what the code holds
 
 module _ (old pool : List (List Asn)) (m was : IdRoutes) (u : Update) (said : Option Interned)
-    (ws ps : List Cidr) (here : m ≡ was) (withdrawn : ws ≡ u.withdrawn) (announced : ps ≡ u.announced)
+    (ws ps : List Cidr) (here : m ≡ was) (withdrawn : ws ≡ u.withdrawn)
+    (announced : ps ≡ u.announced)
     (under : IsUnder old was) (more : Extends old pool) (is : IsSaid pool u said) where
   same_change : put_each (remove_all m ws) ps said
       ≡ put_each (remove_all was u.withdrawn) u.announced said

@@ -33,6 +33,7 @@ abbrev pub mapped : {X Y : Type 0} → (X → Y) → FinMap prefix_cmp X → Fin
 mapped f m = picked (λ x. Some (f x)) m
 
 -- the map with this, if there is something, for each of these prefixes
-abbrev pub put_each : {X : Type 0} → FinMap prefix_cmp X → List Cidr → Option X → FinMap prefix_cmp X
+abbrev pub put_each : {X : Type 0} → FinMap prefix_cmp X → List Cidr → Option X
+    → FinMap prefix_cmp X
 put_each m ps None = m
 put_each m ps (Some v) = fold (λ n p. fin.insert n p v) m ps

@@ -14,11 +14,12 @@
 //! of `specs/PrefixSet.antt`, and a tally as the list of its counts; how the rows lie in memory and
 //! how one is found appears in no contract of a public call. A table of ids stands for an `AdjRib`
 //! of `specs/Updates.antt` under the pool (`routes_under` of `specs/Interned.antt`), and under a
-//! longer one for the same (`laws::same_routes`). `apply_update` of `specs/Updates.antt` says what an update does.
-//! `proofs/Keyed.antt` has the laws of these maps and sets for the proofs of the layers above, and
-//! `proofs/Updates.antt` those of updates, `proofs/Mapped.antt` and `proofs/IdRoutes.antt` those of
-//! maps under a function and of tables of ids. Which routes are put in, the choice between them,
-//! and what a slot stands for, is left to those layers, and octets to `cn_wire`.
+//! longer one for the same (`laws::same_routes`). `apply_update` of `specs/Updates.antt` says what
+//! an update does. `proofs/Keyed.antt` has the laws of these maps and sets for the proofs of the
+//! layers above, `proofs/Updates.antt` those of updates, `proofs/Mapped.antt` and
+//! `proofs/IdRoutes.antt` those of maps under a function and of tables of ids. Which routes are put
+//! in, the choice between them, and what a slot stands for, is left to those layers, and octets to
+//! `cn_wire`.
 #![tactic(auto)]
 
 mod bits;

@@ -3,9 +3,9 @@ use Rattle.cn_core.specs.Laws.{IsKept}
 use Rattle.cn_core.specs.Log.{Log}
 use Rattle.cn_core.specs.Machine.{state}
 use Rattle.cn_core.specs.Order.{first_event}
+use Rattle.cn_core.specs.Stored.{stands_for}
 use Rattle.cn_core.proofs.First.{first_none}
 use Rattle.cn_core.proofs.Logged.{kept_of}
-use Rattle.cn_core.specs.Stored.{stands_for}
 use Rattle.cn_core.proofs.emulator.Core.first.Goals as goal
 
 pub returns-clause-event : goal.returns-clause-event
@@ -17,8 +17,8 @@ pub returns-clause-kept : goal.returns-clause-kept
 returns-clause-kept c =
     subst (λ (l : Log). IsKept l.recorded (state l.recorded l.history)) c.self.view_is
     (subst (IsKept c.self.inside.recorded.value) c.self.invariant.0.tables
-    (kept_of c.self.inside.recorded.value c.self.inside.history.items (stands_for c.self.inside.engine)
-    c.self.invariant.0))
+    (kept_of c.self.inside.recorded.value c.self.inside.history.items
+    (stands_for c.self.inside.engine) c.self.invariant.0))
 
 pub returns-clause-none : goal.returns-clause-none
 returns-clause-none c =

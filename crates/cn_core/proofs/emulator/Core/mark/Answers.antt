@@ -1,7 +1,7 @@
 use Rattle.std.proofs.Common.{ap, ◌∙◌, ◌++◌, ◌∷◌, []}
 use Rattle.cn_core.specs.declared.event.Step.TheVariants.{Mark}
-use Rattle.cn_core.proofs.Logged.{marked}
 use Rattle.cn_core.specs.Stored.{stands_for}
+use Rattle.cn_core.proofs.Logged.{marked}
 use Rattle.cn_core.proofs.emulator.Core.mark.Goals as goal
 
 pub invariant_of-self-2 : goal.invariant_of-self-2
