@@ -21,12 +21,14 @@ tables-requires c =
 pub returns-in_ok-tables-in-Quiet : goal.returns-in_ok-tables-in-Quiet
 returns-in_ok-tables-in-Quiet c =
     pulled_quiet c.self.inside.recorded.value c.self.inside.history.items
-    (stands_for c.self.inside.engine) c.args.self.now c.self.invariant.0 c.self.view_is c.self.inside.emulated
+    (stands_for c.self.inside.engine) c.args.self.now c.self.invariant.0 c.self.view_is
+    c.self.inside.emulated
     c.in_ok-tables-in-Quiet.field-0 c.self.invariant.1 (sym c.in-Quiet.is ∙ c.standing.ensures)
     c.in_ok-tables-in-Quiet.ensures
 
 pub returns-in_default : goal.returns-in_default
 returns-in_default c =
     pulled_again c.self.inside.recorded.value c.self.inside.history.items
-    (stands_for c.self.inside.engine) c.args.self.now c.self.invariant.0 c.self.view_is c.standing.result c.standing.ensures
+    (stands_for c.self.inside.engine) c.args.self.now c.self.invariant.0 c.self.view_is
+    c.standing.result c.standing.ensures
     c.in_default.not-Quiet
