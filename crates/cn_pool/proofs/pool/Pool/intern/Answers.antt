@@ -11,9 +11,10 @@ invariant_of-self c = elim c.match-insert_full.branch [
         (omega (arith, c.if-len-gt-MOST.false, c.len.ensures.len)) w.in-Ok.ensures.keys,
     c.self.invariant.1,
   )
-  | in-Err w ↦
-      (subst (λ ps. IsPool ps c.self.inside.longer) (sym w.in-Err.ensures.err) c.self.invariant.0,
-      c.self.invariant.1)
+  | in-Err w ↦ (
+    subst (λ ps. IsPool ps c.self.inside.longer) (sym w.in-Err.ensures.err) c.self.invariant.0,
+    c.self.invariant.1,
+  )
 ]
 
 pub returns-clause-ok : goal.returns-clause-ok
