@@ -1,5 +1,8 @@
 //! What came in or was sent over a session, after updates.
 
+ghost use Rattle.std.specs.Prelude.{IfOk};
+ghost use Rattle.cn_rib.specs.Interned.{IsUnder};
+
 use crate::words::{prefix, same};
 use cn_base::{AsPath, Asn, Items, Origin, Prefix};
 use cn_pool::Pool;
@@ -107,11 +110,20 @@ fn set_told(alloc: Global, set: &PrefixSet) -> Result<String, Fail> {
     Ok(text)
 }
 
+// The routes after FIRST.
+fn first(alloc: Global, pool: &mut Pool) -> Result<IdRib, Fail>
+    ensures { IfOk result (λ routes. IsUnder pool.new routes) }
+{
+    let update = update_of(alloc, FIRST)?;
+    let mut routes = IdRib::new(alloc);
+    routes.apply(alloc, pool, &update)?;
+    Ok(routes)
+}
+
 // The routes, and the prefixes of the update, after it was applied, or taken in.
 fn after(alloc: Global, taken_in: bool, saying: Saying) -> Result<String, Fail> {
     let mut pool = Pool::new(alloc);
-    let mut routes = IdRib::new(alloc);
-    routes.apply(alloc, &mut pool, &update_of(alloc, FIRST)?)?;
+    let mut routes = first(alloc, &mut pool)?;
     let update = update_of(alloc, saying)?;
     let mut named = PrefixSet::new(alloc);
     if taken_in {
@@ -136,8 +148,7 @@ const PLACES: &[(usize, &str)] = &[
 
 fn at(alloc: Global, place: usize) -> Result<String, Fail> {
     let mut pool = Pool::new(alloc);
-    let mut routes = IdRib::new(alloc);
-    routes.apply(alloc, &mut pool, &update_of(alloc, FIRST)?)?;
+    let routes = first(alloc, &mut pool)?;
     Ok(format!(in alloc; "{:?}", routes.prefix_at(place))?)
 }
 
@@ -146,8 +157,7 @@ fn at(alloc: Global, place: usize) -> Result<String, Fail> {
 fn has(alloc: Global, bits: Bits) -> Result<String, Fail> {
     let prefix = prefix(bits)?;
     let mut pool = Pool::new(alloc);
-    let mut routes = IdRib::new(alloc);
-    routes.apply(alloc, &mut pool, &update_of(alloc, FIRST)?)?;
+    let mut routes = first(alloc, &mut pool)?;
     let before = match routes.get(&pool, &prefix) {
         Some((path, _)) => path.get(0),
         None => None,
